@@ -1,0 +1,5 @@
+pub mod Sizes
+pub mod Tests
+pub mod Sums
+pub mod Tabled
+pub mod Found

@@ -1,0 +1,5 @@
+pub mod Layers
+pub mod Reports
+pub mod Steps
+pub mod Numbers
+pub mod Laws
