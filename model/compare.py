@@ -99,7 +99,7 @@ def self_test() -> None:
     dry = bytes.fromhex("00 01 00 00 00 00 00 00")
     assert write(Basin(Head(0, 1, 0), [0], [0], [Leaf(0, 0, 0)])) == dry
     assert sheet(dry) == "1 1 0\n0 0 1 0 0 0 0\n"
-    assert len(files.largest()) < LOOKED_AT
+    assert len(write(files.fullest(MOST_DEPTH))) < LOOKED_AT
 
     leaf, beds = " 00 00 00 00", " 00" * 64
     fine, finer = split(*[leaf] * 4), split(split(*[leaf] * 4), leaf, leaf, leaf)

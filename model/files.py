@@ -15,7 +15,6 @@ from basin import Basin, Head, Leaf, Node, Number, balanced, encode, nodes, numb
 
 Case = tuple[str, bytes]
 
-NAMES = ("L", "d", "loose", "mark", "V", "X", "Y", "bed")
 HUGE = 1 << 7 * MOST_GROUPS  # the least number that six groups cannot hold
 DEPTHS = (3, 0, 1, 2, 4, 3, 1, 2, 5, 3, 2, 6)  # of the rounds: mostly small basins
 
@@ -84,11 +83,12 @@ def random_basin(rng: Random, depth: int, levels: list[int] | None = None) -> Ba
     return basin
 
 
-def largest() -> bytes:
-    """The longest file of any basin: every leaf one square, every number at its most."""
-    size, fastest = 4**MOST_DEPTH, MOST_SPEED * MOST_HEIGHT
-    head, leaf = Head(MOST_DEPTH, MOST_WIDTH, MOST_LOOSE), Leaf(MOST_HEIGHT, fastest, fastest)
-    return write(Basin(head, [MOST_DEPTH] * size, [MOST_HEIGHT] * size, [leaf] * size))
+def fullest(level: int, sign: int = 1) -> Basin:
+    """The largest basin with all leaves of this level and every number at its most."""
+    water, size = MOST_HEIGHT * 4 ** (MOST_DEPTH - level), 4**MOST_DEPTH
+    leaf = Leaf(water, sign * MOST_SPEED * water, -sign * MOST_SPEED * water)
+    head = Head(MOST_DEPTH, MOST_WIDTH, MOST_LOOSE)
+    return Basin(head, [level] * size, [MOST_HEIGHT] * size, [leaf] * size)
 
 
 def padded(value: int, groups: int) -> bytes:
@@ -109,7 +109,7 @@ def wrong_numbers(rng: Random, number: Number) -> Iterator[Case]:
     yield "range: one beyond", encode(most + 1)
     yield "range: two beyond", encode(most + 2)  # a signed number's other side
     yield "range: beyond", encode(rng.randint(most + 1, min(128 * most + 128, HUGE - 1)))
-    yield "range: six groups", encode(rng.randrange(HUGE >> 7, HUGE))
+    yield "range: six groups", encode(rng.randrange(max(most + 1, HUGE >> 7), HUGE))
     yield "range: the largest number", encode(HUGE - 1)
     yield "edge: most", encode(most)
     yield "edge: one less", encode(max(most - 1, 0))
@@ -124,23 +124,27 @@ def wrong_numbers(rng: Random, number: Number) -> Iterator[Case]:
 def endings(rng: Random, number: Number) -> Iterator[Case]:
     """What to put in a number's place as the last bytes of the file."""
     yield "cut: before", b""
-    yield "cut: inside", encode(number.value)[:-1] or going_on(rng, 1)
     yield "cut: after", encode(number.value)
-    yield "cut: unended", going_on(rng, rng.randint(1, MOST_GROUPS - 1))
+    yield "cut: inside", going_on(rng, rng.randint(1, MOST_GROUPS - 1))
     yield "cut: after six groups too long", going_on(rng, MOST_GROUPS)
 
 
-def damaged(rng: Random, basin: Basin) -> Iterator[Case]:
+def aimed(rng: Random, basin: Basin) -> Iterator[Case]:
+    """Damage to one number of each name."""
     row = list(numbers(basin))
     parts = [encode(number.value) for number in row]
-    for name in NAMES:
+    for name in dict.fromkeys(number.name for number in row):
         place = rng.choice([i for i, number in enumerate(row) if number.name == name])
         before, after = b"".join(parts[:place]), b"".join(parts[place + 1 :])
         for kind, new in wrong_numbers(rng, row[place]):
             yield f"{kind}, {name}", before + new + after
         for kind, new in endings(rng, row[place]):
             yield f"{kind}, {name}", before + new
-    whole = b"".join(parts)
+
+
+def damaged(rng: Random, basin: Basin) -> Iterator[Case]:
+    yield from aimed(rng, basin)
+    whole = write(basin)
     for _ in range(8):
         at, byte = rng.randrange(len(whole)), bytes([rng.choice((0, 1, 128, 255, rng.randrange(256)))])
         yield "byte: changed", whole[:at] + byte + whole[at + 1 :]
@@ -160,7 +164,7 @@ def garbage(rng: Random) -> Iterator[Case]:
 
 def long_files(rng: Random) -> Iterator[Case]:
     yield "long: empty", b""
-    most, small = largest(), write(random_basin(rng, 2))
+    most, small = write(fullest(MOST_DEPTH)), write(random_basin(rng, 2))  # none is longer than most
     yield "long: largest", most
     yield "long: largest less one", most[:-1]
     for whole in (most, small):
@@ -172,9 +176,13 @@ def long_files(rng: Random) -> Iterator[Case]:
 
 
 def cases(seed: int) -> Iterator[Case]:
-    """Without end: the long files, then round after round of all kinds."""
+    """Without end: long and full files, then round after round of all kinds."""
     rng = Random(seed)
     yield from long_files(rng)
+    for sign in (1, -1):
+        for level in range(MOST_DEPTH + 1):
+            yield f"sound: full, level {level}", write(fullest(level, sign))
+        yield from aimed(rng, fullest(0, sign))  # where a number has the most bits
     for depth in cycle(DEPTHS):
         small = depth <= 3
         for _ in range(24 if small else 8):

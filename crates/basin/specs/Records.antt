@@ -20,5 +20,5 @@ may-run water q = leb (natAbs q) (10000 * water)
 -- the record's numbers are in their ranges on a leaf of this area
 pub record In-range (area : ℕ) (l : Leaf) : Type 0 where
   pub room : may-hold area (l .water) ≡ true
-  pub east-may-run : may-run (l .water) (l .east) ≡ true
-  pub north-may-run : may-run (l .water) (l .north) ≡ true
+  pub east : may-run (l .water) (l .east) ≡ true
+  pub north : may-run (l .water) (l .north) ≡ true

@@ -1,2 +1,5 @@
 pub mod Rows
 pub mod Ways
+pub mod Painted
+pub mod Leaves
+pub mod Forms

@@ -1,3 +1,4 @@
 pub mod Reports
 pub mod Trees
 pub mod Paint
+pub mod Written

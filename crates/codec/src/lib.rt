@@ -1,0 +1,4 @@
+// The file of a basin.
+pub mod beds;
+pub mod fault;
+pub mod heading;

@@ -1,0 +1,19 @@
+-- What led to a granted result.
+use mathlib.Core.Path.{_≡_, refl, ap}
+use mathlib.Core.Bool.{Bool, true, false, cond}
+use Prim.Native.Nat.{ℕ}
+use native.Mathlib.Omega.{arith}
+use Rattle.std.specs.declared.result.Result.{Result}
+use Rattle.std.specs.declared.result.Result.the-variants.{Ok, Err}
+use Rattle.numbers.specs.Steps.{after}
+
+pub after-ok : {A B E : Type 0} (r : Result A E) (f : A → Result B E) (y : B) → after r f ≡ Ok y → (x : A) × (r ≡ Ok x) × (f x ≡ Ok y)
+after-ok (Ok x) f y e = (x, refl, e)
+after-ok (Err g) f y e = let z : _≡_ {A = ℕ} 0 1 = cc in absurd (omega arith)
+
+pub when : {A E : Type 0} (t : Bool) (f : E) (r : Result A E) (y : A) → cond t r (Err f) ≡ Ok y → (t ≡ true) × (r ≡ Ok y)
+when true f r y e = (refl, e)
+when false f r y e = let z : _≡_ {A = ℕ} 0 1 = cc in absurd (omega arith)
+
+pub ok-parts : {A E : Type 0} (a b : A) (p q : ℕ) → _≡_ {A = Result (A × ℕ) E} (Ok (a, p)) (Ok (b, q)) → (a ≡ b) × (p ≡ q)
+ok-parts {A} {E} a b p q e = let h : _≡_ {A = A × ℕ} (a, p) (b, q) = cc in (ap (λ (x : A × ℕ). x .0) h, ap (λ (x : A × ℕ). x .1) h)
