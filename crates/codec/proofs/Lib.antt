@@ -1,1 +1,3 @@
 pub mod Bedding
+pub mod Whole
+pub mod Valid

@@ -49,11 +49,6 @@ beds-from (suc more) bs at got = after (ranged-at bs at 0 30000) (λ h. beds-fro
 abbrev pub beds-at : (count : ℕ) → List ℕ → ℕ → Result (List ℕ × ℕ) FileFault
 beds-at count bs at = beds-from count bs at []
 
--- the place after what was read
-abbrev pub place : {A : Type 0} → Result (A × ℕ) FileFault → Result ℕ FileFault
-place (Ok r) = Ok (r .1)
-place (Err e) = Err e
-
 -- what follows the head: the tree and the beds, to the end of the file
 unfoldable pub body-at : ℕ → List ℕ → ℕ → Result (trees.Tree × List ℕ) FileFault
 body-at L bs at =

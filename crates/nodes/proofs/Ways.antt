@@ -10,11 +10,12 @@ use Prim.Native.Nat.{ℕ, zero, suc, pred, _+_, _-_, _*_, _^_, _<_, _≤_}
 use native.Mathlib.Omega.{arith}
 use Rattle.std.specs.declared.result.Result.{Result}
 use Rattle.std.specs.declared.result.Result.the-variants.{Ok, Err}
+use Rattle.numbers.proofs.Steps.{placed}
 use Rattle.nodes.specs.declared.fault.TreeFault.{TreeFault}
 use Rattle.nodes.specs.declared.fault.TreeFault.the-variants.{Number, Range}
 use Rattle.basin.specs.declared.leaf.Leaf.{Leaf}
-use Rattle.numbers.specs.Steps.{after}
-use Rattle.nodes.specs.Trees.{Tree, one, four, side, carried, leaf-at, node-by, node-at, quarters-at, quarters-by, place}
+use Rattle.numbers.specs.Steps.{after, place}
+use Rattle.nodes.specs.Trees.{Tree, one, four, side, carried, leaf-at, node-by, node-at, quarters-at, quarters-by}
 use Rattle.nodes.specs.Paint.{painted, square, Drawn}
 
 -- what a mark 1 leads to
@@ -51,11 +52,6 @@ node-wrong height bs at mark next e z (inl w) =
     rw (node-is height bs at, ← e, w .0, l) refl
 node-wrong height bs at mark next e z (inr w) = rw (node-is height bs at, ← e, ne-eqb mark 0 z, ne-eqb mark 1 w) refl
 
--- a place that was reached has a tree before it
-pub reached : (r : Result (Tree × ℕ) TreeFault) (a : ℕ) → Ok a ≡ place r → (t : Tree) × (r ≡ Ok (t, a))
-reached (Ok p) a e = let h : a ≡ p .1 = cc in (p .0, rw h refl)
-reached (Err f) a e = let z : _≡_ {A = ℕ} 0 1 = cc in absurd (omega arith)
-
 pub drawn-err : {A : Type 0} (pick : ℕ → Leaf → A) (n height p : ℕ) {f : TreeFault} (t u : List A) {r : Result (Tree × ℕ) TreeFault}
     → r ≡ Err f → Drawn pick n height p r t u
 drawn-err pick n height p t u e = rw e tt
@@ -89,9 +85,9 @@ pub drawn-four : {A : Type 0} (pick : ℕ → Leaf → A) (n height w p : ℕ) (
     → Drawn pick n height (p + w * n + w) (node c) t₃ t₄
     → Drawn pick n (height + 1) p (quarters-by node at) t₀ t₄
 drawn-four pick n height w p node at a b c t₀ t₁ t₂ t₃ t₄ ew ea eb ec d₁ d₂ d₃ d₄ =
-    let q₁ = reached (node at) a ea in
-    let q₂ = reached (node a) b eb in
-    let q₃ = reached (node b) c ec in
+    let q₁ = placed (node at) a ea in
+    let q₂ = placed (node a) b eb in
+    let q₃ = placed (node b) c ec in
     rw (add-one, q₁ .1, q₂ .1, q₃ .1)
       (painted-four pick n height p (q₁ .0) (q₂ .0) (q₃ .0) (node c) t₀ t₁ t₂ t₃ t₄
         (rw (q₁ .1) at d₁) (rw (q₂ .1, ew) at d₂) (rw (q₃ .1, ew) at d₃) (rw ew at d₄))
@@ -103,7 +99,7 @@ place-last x y z (Err f) = refl
 pub place-four : (node : ℕ → Result (Tree × ℕ) TreeFault) (at a b c : ℕ) (r : Result ℕ TreeFault)
     → Ok a ≡ place (node at) → Ok b ≡ place (node a) → Ok c ≡ place (node b) → r ≡ place (node c) → r ≡ place (quarters-by node at)
 place-four node at a b c r ea eb ec e =
-    let q₁ = reached (node at) a ea in
-    let q₂ = reached (node a) b eb in
-    let q₃ = reached (node b) c ec in
+    let q₁ = placed (node at) a ea in
+    let q₂ = placed (node a) b eb in
+    let q₃ = placed (node b) c ec in
     rw (q₁ .1, q₂ .1, q₃ .1) (e ∙ place-last (q₁ .0) (q₂ .0) (q₃ .0) (node c))

@@ -67,11 +67,6 @@ node-at (suc height) bs at =
 abbrev pub quarters-at : ℕ → List ℕ → ℕ → Result (Tree × ℕ) TreeFault
 quarters-at height bs at = quarters-by (λ p. node-at height bs p) at
 
--- the place after what was read
-abbrev pub place : {A : Type 0} → Result (A × ℕ) TreeFault → Result ℕ TreeFault
-place (Ok r) = Ok (r .1)
-place (Err e) = Err e
-
 -- ---- the tree by squares
 -- a leaf in the tree, with the levels below it
 pub record Found : Type 0 where

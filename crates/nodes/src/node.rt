@@ -2,7 +2,8 @@
 ghost use mathlib.Core.Path.{_≡_};
 ghost use lib.ListN.{length};
 ghost use Prim.Native.Nat.{_+_};
-ghost use Rattle.nodes.specs.Trees.{node-at, quarters-at, place};
+ghost use Rattle.numbers.specs.Steps.{place};
+ghost use Rattle.nodes.specs.Trees.{node-at, quarters-at};
 ghost use Rattle.nodes.specs.Paint.{Drawn, level-of, record-of, Placed, Placed-four};
 
 use crate::fault::TreeFault;

@@ -5,7 +5,7 @@ use Prim.Native.Nat.{ℕ}
 use native.Mathlib.Omega.{arith}
 use Rattle.std.specs.declared.result.Result.{Result}
 use Rattle.std.specs.declared.result.Result.the-variants.{Ok, Err}
-use Rattle.numbers.specs.Steps.{after}
+use Rattle.numbers.specs.Steps.{after, place}
 
 pub after-ok : {A B E : Type 0} (r : Result A E) (f : A → Result B E) (y : B) → after r f ≡ Ok y → (x : A) × (r ≡ Ok x) × (f x ≡ Ok y)
 after-ok (Ok x) f y e = (x, refl, e)
@@ -17,3 +17,11 @@ when false f r y e = let z : _≡_ {A = ℕ} 0 1 = cc in absurd (omega arith)
 
 pub ok-parts : {A E : Type 0} (a b : A) (p q : ℕ) → _≡_ {A = Result (A × ℕ) E} (Ok (a, p)) (Ok (b, q)) → (a ≡ b) × (p ≡ q)
 ok-parts {A} {E} a b p q e = let h : _≡_ {A = A × ℕ} (a, p) (b, q) = cc in (ap (λ (x : A × ℕ). x .0) h, ap (λ (x : A × ℕ). x .1) h)
+
+pub placed : {A E : Type 0} (r : Result (A × ℕ) E) (p : ℕ) → Ok p ≡ place r → (x : A) × (r ≡ Ok (x, p))
+placed (Ok x) p e = let h : p ≡ x .1 = cc in (x .0, rw h refl)
+placed (Err f) p e = let z : _≡_ {A = ℕ} 0 1 = cc in absurd (omega arith)
+
+pub not-placed : {A E : Type 0} (r : Result (A × ℕ) E) (f : E) → Err f ≡ place r → r ≡ Err f
+not-placed (Ok x) f e = let z : _≡_ {A = ℕ} 0 1 = cc in absurd (omega arith)
+not-placed (Err g) f e = let h : g ≡ f = cc in rw h refl

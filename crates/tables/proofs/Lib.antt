@@ -1,0 +1,2 @@
+-- The lemmas that the proofs use.
+pub mod Beside

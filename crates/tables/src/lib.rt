@@ -1,0 +1,2 @@
+// Tests of a basin's tables.
+pub mod balance;
