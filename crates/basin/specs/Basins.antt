@@ -36,6 +36,10 @@ heading h = record { L = h .levels; d = h .width; loose = h .loose }
 abbrev pub basin : Heading → Tables → Basin
 basin h t = record { head = h; tables = t }
 
+-- the basin that a head and three tables make
+abbrev pub basin-of : Head → List ℕ → List ℕ → List Leaf → Basin
+basin-of h levels beds leaves = basin (heading h) (tables levels beds leaves)
+
 -- the squares along a side
 abbrev pub side : Heading → ℕ
 side h = 2 ^ h .L

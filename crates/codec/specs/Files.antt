@@ -41,6 +41,11 @@ head-at bs =
         after (ranged-at bs (d .1) 0 1000000) (λ w.
           Ok (record { L = l .0; d = d .0; loose = w .0 }, w .1))))
 
+-- the squares of the basin with that head
+abbrev pub squares-of : Result (Heading × ℕ) FileFault → ℕ
+squares-of (Ok h) = side (h .0) * side (h .0)
+squares-of (Err e) = 0
+
 -- the beds that are left to read, after those in got
 unfoldable pub beds-from : (more : ℕ) → List ℕ → ℕ → List ℕ → Result (List ℕ × ℕ) FileFault
 beds-from zero bs at got = Ok (got, at)

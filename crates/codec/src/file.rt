@@ -3,8 +3,8 @@ ghost use mathlib.Core.Path.{_≡_};
 ghost use Prim.Native.Nat.{_*_, _^_};
 ghost use lib.ListN.{length};
 ghost use Rattle.std.specs.Results.{Cases};
-ghost use Rattle.basin.specs.Basins.{heading, tables, basin, side, Valid-basin};
-ghost use Rattle.codec.specs.Files.{body-at, read-of};
+ghost use Rattle.basin.specs.Basins.{heading, tables, basin-of, side, Valid-basin};
+ghost use Rattle.codec.specs.Files.{head-at, squares-of, body-at, read-of};
 ghost use Rattle.codec.specs.Seen.{seen, whether, Charts};
 
 use crate::beds::read_beds;
@@ -65,10 +65,23 @@ fn read_by(bytes: &[u8], levels: &mut [u8], beds: &mut [u16], leaves: &mut [Leaf
     Ok(head)
 }
 
+/// The entries that the tables for a file's basin have, by its head alone; 0 where the head cannot be read.
+pub fn table_length(bytes: &[u8]) -> usize
+    ensures { λ r. ⌜ r ≡ squares-of (head-at (now (bytes .entry))) ⌝ }
+{
+    match read_head(bytes) {
+        Ok(found) => {
+            let (head, _) = found;
+            head.squares()
+        }
+        Err(_) => 0,
+    }
+}
+
 /// Reads a basin's file into its head and three tables. What it grants is a valid basin; where it refuses, the tables are as they were.
 pub fn read(bytes: &[u8], levels: &mut [u8], beds: &mut [u16], leaves: &mut [Leaf]) -> Result<Head, FileFault>
     ensures read { λ r. ⌜ (seen r, tables (now (levels .exit)) (now (beds .exit)) (now (leaves .exit))) ≡ read-of (now (bytes .entry)) (tables (now (levels .entry)) (now (beds .entry)) (now (leaves .entry))) ⌝ }
-    ensures valid { λ r. ⌜ Cases r (λ h. Valid-basin (basin (heading h) (tables (now (levels .exit)) (now (beds .exit)) (now (leaves .exit))))) (λ _. Unit {0}) ⌝ }
+    ensures valid { λ r. ⌜ Cases r (λ h. Valid-basin (basin-of h (now (levels .exit)) (now (beds .exit)) (now (leaves .exit)))) (λ _. Unit {0}) ⌝ }
 {
     let mut shape = [0; MOST];
     let mut heights = [0; MOST];

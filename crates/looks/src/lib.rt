@@ -1,0 +1,2 @@
+// What can be read off a valid basin.
+pub mod surface;
