@@ -22,7 +22,7 @@ none n P h x y a b =
 pub is-none : (n : ℕ) (P : ℕ → ℕ → Bool) → ((x y : ℕ) → x < n → y < n → P x y ≡ false) → some-square n P ≡ false
 is-none n P h =
     let z : grid n (λ x y. only (P x y) 1) ≡ 0 =
-      sum-below-none n (λ y. sum-below n (λ x. only (P x y) 1)) (λ y b. sum-below-none n (λ x. only (P x y) 1) (λ x a. ap (λ t. only t 1) (h x y a b))) in
+    sum-below-none n (λ y. sum-below n (λ x. only (P x y) 1)) (λ y b. sum-below-none n (λ x. only (P x y) 1) (λ x a. ap (λ t. only t 1) (h x y a b))) in
     ap (λ m. ltb 0 m) z
 
 pub is-some : (n : ℕ) (P : ℕ → ℕ → Bool) (x y : ℕ) → x < n → y < n → P x y ≡ true → some-square n P ≡ true

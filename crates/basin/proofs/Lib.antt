@@ -3,3 +3,4 @@ pub mod Tests
 pub mod Sums
 pub mod Tabled
 pub mod Found
+pub mod Telling

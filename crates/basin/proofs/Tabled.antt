@@ -42,7 +42,7 @@ unfolding table
 table-cong zero f g h = refl
 table-cong (suc n) f g h =
     listed-cong (suc n * suc n) (λ i. f (i % suc n) (i / suc n)) (λ i. g (i % suc n) (i / suc n))
-        (λ i b. let z : 0 < suc n = omega arith in h (i % suc n) (i / suc n) (mod-lt i z) (div-lt-iff-lt-mul z .1 b))
+    (λ i b. let z : 0 < suc n = omega arith in h (i % suc n) (i / suc n) (mod-lt i z) (div-lt-iff-lt-mul z .1 b))
 
 -- a list of n × n entries is the table of its entries
 pub table-entry : {A : Type 0} (n : ℕ) (xs : List A) (d : A) → length xs ≡ n * n → table n (λ x y. entry n d xs x y) ≡ xs

@@ -47,13 +47,13 @@ side h = 2 ^ h .L
 -- the tables by squares, and back
 abbrev pub view : Basin → View
 view b =
-    record
-      { L = b .head .L
-      ; d = b .head .d
-      ; level = λ x y. entry (side (b .head)) 0 (b .tables .levels) x y
-      ; bed = λ x y. entry (side (b .head)) 0 (b .tables .beds) x y
-      ; leaf = λ x y. entry (side (b .head)) dry (b .tables .leaves) x y
-      }
+    record {
+      L = b .head .L;
+      d = b .head .d;
+      level = λ x y. entry (side (b .head)) 0 (b .tables .levels) x y;
+      bed = λ x y. entry (side (b .head)) 0 (b .tables .beds) x y;
+      leaf = λ x y. entry (side (b .head)) dry (b .tables .leaves) x y;
+    }
 
 abbrev pub packed : View → Tables
 packed v = tables (table (size v) (v .level)) (table (size v) (v .bed)) (table (size v) (v .leaf))

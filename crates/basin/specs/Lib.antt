@@ -6,3 +6,4 @@ pub mod Blocks
 pub mod Views
 pub mod Squares
 pub mod Basins
+pub mod Flaws

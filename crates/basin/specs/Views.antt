@@ -24,9 +24,9 @@ pub record Quadtree (v : View) : Type 0 where
   pub shallow : (x y : ℕ) → x < size v → y < size v → v .level x y ≤ v .L
   -- the squares of one leaf
   pub uniform : (x y p q : ℕ) → x < size v → y < size v → p < size v → q < size v
-    → x / side-of v (v .level x y) ≡ p / side-of v (v .level x y)
-    → y / side-of v (v .level x y) ≡ q / side-of v (v .level x y)
-    → (v .level p q ≡ v .level x y) × (v .leaf p q ≡ v .leaf x y)
+      → x / side-of v (v .level x y) ≡ p / side-of v (v .level x y)
+      → y / side-of v (v .level x y) ≡ q / side-of v (v .level x y)
+      → (v .level p q ≡ v .level x y) × (v .leaf p q ≡ v .leaf x y)
   -- squares that share an edge or a corner
   pub balanced : (x y p q : ℕ) → x < size v → y < size v → p < size v → q < size v
-    → x ≤ p + 1 → p ≤ x + 1 → y ≤ q + 1 → q ≤ y + 1 → v .level x y ≤ v .level p q + 1
+      → x ≤ p + 1 → p ≤ x + 1 → y ≤ q + 1 → q ≤ y + 1 → v .level x y ≤ v .level p q + 1

@@ -1,7 +1,6 @@
 // A basin's head.
 ghost use mathlib.Core.Path.{_≡_};
 ghost use Prim.Native.Nat.{_*_, _^_, _≤_};
-
 use crate::size::side;
 
 /// The head of a basin: the levels L of its tree, the width d of a square in metres, and the loose account, which holds water that lies in

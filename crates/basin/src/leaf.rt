@@ -13,7 +13,11 @@ pub struct Leaf {
 
 impl Leaf {
     /// A leaf without water or discharge.
-    pub const DRY: Leaf = Leaf { water: 0, east: 0, north: 0 };
+    pub const DRY: Leaf = Leaf {
+        water: 0,
+        east: 0,
+        north: 0,
+    };
 }
 
 /// Whether a leaf of `area` squares may hold `water`: at most 30,000 mm on each square.

@@ -14,6 +14,7 @@ use Rattle.std.specs.declared.result.Result.the-variants.{Ok, Err}
 use Rattle.basin.specs.declared.head.Head.{Head}
 use Rattle.basin.specs.declared.leaf.Leaf.{Leaf}
 use Rattle.basin.specs.Basins.{Heading, heading, Tables, Basin, basin, side, view, Valid, Heads, Full, Valid-basin}
+use Rattle.basin.specs.Flaws.{misfit}
 use Rattle.basin.specs.Records.{dry, In-range}
 use Rattle.basin.specs.Squares.{touch, unbalanced}
 use Rattle.basin.specs.Tables.{table, entry}
@@ -24,14 +25,14 @@ use Rattle.basin.proofs.Tests.{and-true, not-and, to-touch}
 use Rattle.numbers.specs.Laws.{Bytes}
 use Rattle.numbers.specs.Numbers.{number-at}
 use Rattle.numbers.specs.Steps.{after}
-use Rattle.numbers.proofs.Steps.{after-ok, when}
+use Rattle.numbers.proofs.Steps.{after-ok, when, unless}
 use Rattle.nodes.specs.Trees as trees
 use Rattle.nodes.specs.Trees.{node-at, Found, found, Sound}
 use Rattle.nodes.proofs.Forms.{tree-was-written}
 use Rattle.nodes.proofs.Leaves.{leaf-of, one-leaf}
 use Rattle.codec.specs.declared.fault.FileFault.{FileFault}
 use Rattle.codec.specs.declared.fault.FileFault.the-variants.{Range, Trailing, TableLength}
-use Rattle.codec.specs.Files.{of-number, of-tree, ranged-at, head-at, beds-from, beds-at, body-at, charted, balanced-in, file-at, fits, granted, read-of}
+use Rattle.codec.specs.Files.{of-number, of-tree, ranged-at, head-at, beds-from, beds-at, body-at, charted, balanced-in, file-at, granted, read-of}
 use Rattle.codec.specs.Seen.{seen}
 
 -- ---- numbers in their ranges
@@ -54,12 +55,12 @@ heads bs h e =
     let rw′ = ranged bs (d .0 .1) 0 1000000 (w .0) (w .1) in
     by (l .0 .0) (d .0 .0) (w .0 .0) (w .0 .1) h (w .2) (rl .1) (rd .0) (rd .1) (rw′ .1)
   where
-  by : (L d loose q : ℕ) (h : Heading × ℕ) → _≡_ {A = Result (Heading × ℕ) FileFault} (Ok (record { L = L; d = d; loose = loose }, q)) (Ok h)
-    → L ≤ 6 → 1 ≤ d → d ≤ 1000 → loose ≤ 1000000 → Heads (h .0)
-  by L d loose q h o a b c e =
-    let same : _≡_ {A = Heading × ℕ} (record { L = L; d = d; loose = loose }, q) h = cc in
-    let first : _≡_ {A = Heading} (record { L = L; d = d; loose = loose }) (h .0) = ap (λ (p : Heading × ℕ). p .0) same in
-    rw (← first) (record { levels = a; width-least = b; width-most = c; loose = e })
+    by : (L d loose q : ℕ) (h : Heading × ℕ) → _≡_ {A = Result (Heading × ℕ) FileFault} (Ok (record { L = L; d = d; loose = loose }, q)) (Ok h)
+        → L ≤ 6 → 1 ≤ d → d ≤ 1000 → loose ≤ 1000000 → Heads (h .0)
+    by L d loose q h o a b c e =
+        let same : _≡_ {A = Heading × ℕ} (record { L = L; d = d; loose = loose }, q) h = cc in
+        let first : _≡_ {A = Heading} (record { L = L; d = d; loose = loose }) (h .0) = ap (λ (p : Heading × ℕ). p .0) same in
+        rw (← first) (record { levels = a; width-least = b; width-most = c; loose = e })
 
 -- ---- beds
 abbrev Low : List ℕ → Type 0
@@ -103,9 +104,9 @@ module _ (h : Heading) (t : trees.Tree) (beds : List ℕ) (sound : Sound (h .L) 
       → y / 2 ^ (h .L - view (charted h t beds) .level x y) ≡ q / 2 ^ (h .L - view (charted h t beds) .level x y)
       → (view (charted h t beds) .level p q ≡ view (charted h t beds) .level x y) × (view (charted h t beds) .leaf p q ≡ view (charted h t beds) .leaf x y)
   uniform x y p q a b c d e f =
-      let same = one-leaf (h .L) t sound x y p q (h .L - view (charted h t beds) .level x y) (sym (height-is x y a b)) e f in
-      ( level-is p q c d ∙ (ap (λ (g : Found). h .L - g .height) same ∙ sym (level-is x y a b))
-      , leaf-is p q c d ∙ (ap (λ (g : Found). g .leaf) same ∙ sym (leaf-is x y a b))
+      let same = one-leaf (h .L) t sound x y p q (h .L - view (charted h t beds) .level x y) (sym (height-is x y a b)) e f in (
+        level-is p q c d ∙ (ap (λ (g : Found). h .L - g .height) same ∙ sym (level-is x y a b)),
+        leaf-is p q c d ∙ (ap (λ (g : Found). g .leaf) same ∙ sym (leaf-is x y a b)),
       )
 
   balanced : (x y p q : ℕ) → x < side h → y < side h → p < side h → q < side h
@@ -122,16 +123,16 @@ module _ (h : Heading) (t : trees.Tree) (beds : List ℕ) (sound : Sound (h .L) 
 
   squares : Valid (view (charted h t beds))
   squares =
-      record
-        { quadtree =
-            record
-              { shallow = λ x y a b. omega (arith, level-is x y a b)
-              ; uniform = uniform
-              ; balanced = balanced
-              }
-        ; low-beds = λ x y a b. low (y * side h + x)
-        ; in-range = in-range
-        }
+      record {
+        quadtree =
+            record {
+              shallow = λ x y a b. omega (arith, level-is x y a b);
+              uniform = uniform;
+              balanced = balanced;
+            };
+        low-beds = λ x y a b. low (y * side h + x);
+        in-range = in-range;
+      }
 
 -- ---- the file
 charted-valid : (bs : List ℕ) (h : Heading × ℕ) (b : trees.Tree × List ℕ) → Bytes bs → head-at bs ≡ Ok h → body-at (h .0 .L) bs (h .1) ≡ Ok b
@@ -147,46 +148,43 @@ charted-valid bs h b small eh eb balance =
     let beds : d .0 .0 ≡ b .1 = ap (λ (w : trees.Tree × List ℕ). w .1) same in
     let low = beds-low (n * n) bs (t .0 .1) [] (d .0) (d .1) (λ i. omega arith) in
     let sound = tree-was-written (h .0 .L) bs (h .1) (t .0 .0) (t .0 .1) small (of-tree-ok (node-at (h .0 .L) bs (h .1)) (t .0) (t .1)) .1 in
-    record
-      { head = heads bs h eh
-      ; full = record { levels = length-table n _; beds = rw (← beds) (omega (arith, low .1)); leaves = length-table n _ }
-      ; squares = squares (h .0) (b .0) (b .1) (rw (← tree) sound) (rw (← beds) (low .0)) balance
-      }
+    record {
+      head = heads bs h eh;
+      full = record { levels = length-table n _; beds = rw (← beds) (omega (arith, low .1)); leaves = length-table n _ };
+      squares = squares (h .0) (b .0) (b .1) (rw (← tree) sound) (rw (← beds) (low .0)) balance;
+    }
   where
-  of-tree-ok : {A : Type 0} (r : Result A Rattle.nodes.specs.declared.fault.TreeFault.TreeFault) (x : A) → of-tree r ≡ Ok x → r ≡ Ok x
-  of-tree-ok (Ok y) x e = let k : y ≡ x = cc in rw k refl
-  of-tree-ok (Err f) x e = let z : _≡_ {A = ℕ} 0 1 = cc in absurd (omega arith)
+    of-tree-ok : {A : Type 0} (r : Result A Rattle.nodes.specs.declared.fault.TreeFault.TreeFault) (x : A) → of-tree r ≡ Ok x → r ≡ Ok x
+    of-tree-ok (Ok y) x e = let k : y ≡ x = cc in rw k refl
+    of-tree-ok (Err f) x e = let z : _≡_ {A = ℕ} 0 1 = cc in absurd (omega arith)
 
 pub file-valid : (bs : List ℕ) (b : Basin) → Bytes bs → file-at bs ≡ Ok b → Valid-basin b
 unfolding file-at
 file-valid bs b small e =
     let h = after-ok (head-at bs) _ b e in
     let d = after-ok (body-at (h .0 .0 .L) bs (h .0 .1)) _ b (h .2) in
-    let u = unless (unbalanced (side (h .0 .0)) (view (charted (h .0 .0) (d .0 .0) (d .0 .1)) .level)) _ _ b (d .2) in
-    rw (← u .1) (charted-valid bs (h .0) (d .0) small (h .1) (d .1) (u .0))
-  where
-  unless : (t : Bool) (f : FileFault) (c b : Basin) → cond {A = Result Basin FileFault} t (Err f) (Ok c) ≡ Ok b → (t ≡ false) × (c ≡ b)
-  unless true f c b e = let z : _≡_ {A = ℕ} 0 1 = cc in absurd (omega arith)
-  unless false f c b e = let k : c ≡ b = cc in (refl, k)
+    let u = unless (unbalanced (side (h .0 .0)) (view (charted (h .0 .0) (d .0 .0) (d .0 .1)) .level)) _ (Ok (charted (h .0 .0) (d .0 .0) (d .0 .1))) b (d .2) in
+    let same : charted (h .0 .0) (d .0 .0) (d .0 .1) ≡ b = cc (u .1) in
+    rw (← same) (charted-valid bs (h .0) (d .0) small (h .1) (d .1) (u .0))
 
 -- ---- what a read grants
 pub read-valid : (bs : List ℕ) (t u : Tables) (r : Result Head FileFault) → Bytes bs → (seen r, u) ≡ read-of bs t
     → Cases r (λ h. Valid-basin (basin (heading h) u)) (λ _. Unit {0})
 read-valid bs t u (Err f) small e = tt
-read-valid bs t u (Ok h) small e = go (after (file-at bs) (λ b. cond (fits (b .head) t) (Ok b) (Err (TableLength (length bs))))) refl e
+read-valid bs t u (Ok h) small e = go (after (file-at bs) (λ b. cond (misfit (b .head) t) (Err (TableLength (length bs))) (Ok b))) refl e
   where
-  go : (g : Result Basin FileFault) → after (file-at bs) (λ b. cond (fits (b .head) t) (Ok b) (Err (TableLength (length bs)))) ≡ g
-    → _≡_ {A = Result Heading FileFault × Tables} (Ok (heading h), u) (granted g t) → Valid-basin (basin (heading h) u)
-  go (Ok b) k o =
-    let a = after-ok (file-at bs) _ b k in
-    let w = when (fits (a .0 .head) t) (TableLength (length bs)) (Ok (a .0)) b (a .2) in
-    let same : a .0 ≡ b = cc (w .1) in
-    let v = file-valid bs (a .0) small (a .1) in
-    let head : _≡_ {A = Result Heading FileFault} (Ok (heading h)) (Ok (b .head)) = ap (λ (p : Result Heading FileFault × Tables). p .0) o in
-    let hh : heading h ≡ b .head = cc in
-    let ut : u ≡ b .tables = ap (λ (p : Result Heading FileFault × Tables). p .1) o in
-    let v′ : Valid-basin b = rw (← same) v in
-    rw (hh, ut) (record { head = v′ .head; full = v′ .full; squares = v′ .squares })
-  go (Err f) k o =
-    let bad : _≡_ {A = Result Heading FileFault} (Ok (heading h)) (Err f) = ap (λ (p : Result Heading FileFault × Tables). p .0) o in
-    let z : _≡_ {A = ℕ} 0 1 = cc in absurd (omega arith)
+    go : (g : Result Basin FileFault) → after (file-at bs) (λ b. cond (misfit (b .head) t) (Err (TableLength (length bs))) (Ok b)) ≡ g
+        → _≡_ {A = Result Heading FileFault × Tables} (Ok (heading h), u) (granted g t) → Valid-basin (basin (heading h) u)
+    go (Ok b) k o =
+        let a = after-ok (file-at bs) _ b k in
+        let w = unless (misfit (a .0 .head) t) (TableLength (length bs)) (Ok (a .0)) b (a .2) in
+        let same : a .0 ≡ b = cc (w .1) in
+        let v = file-valid bs (a .0) small (a .1) in
+        let head : _≡_ {A = Result Heading FileFault} (Ok (heading h)) (Ok (b .head)) = ap (λ (p : Result Heading FileFault × Tables). p .0) o in
+        let hh : heading h ≡ b .head = cc in
+        let ut : u ≡ b .tables = ap (λ (p : Result Heading FileFault × Tables). p .1) o in
+        let v′ : Valid-basin b = rw (← same) v in
+        rw (hh, ut) (record { head = v′ .head; full = v′ .full; squares = v′ .squares })
+    go (Err f) k o =
+        let bad : _≡_ {A = Result Heading FileFault} (Ok (heading h)) (Err f) = ap (λ (p : Result Heading FileFault × Tables). p .0) o in
+        let z : _≡_ {A = ℕ} 0 1 = cc in absurd (omega arith)

@@ -14,6 +14,7 @@ use Rattle.std.specs.declared.result.Result.the-variants.{Ok, Err}
 use Rattle.basin.specs.declared.leaf.Leaf.{Leaf}
 use Rattle.basin.specs.Basins.{Heading, Tables, tables, Basin, basin, side, view}
 use Rattle.basin.specs.Records.{dry}
+use Rattle.basin.specs.Flaws.{misfit}
 use Rattle.basin.specs.Squares.{unbalanced}
 use Rattle.basin.specs.Tables.{table, entry}
 use Rattle.numbers.specs.Laws.{Bytes}
@@ -28,7 +29,7 @@ use Rattle.nodes.proofs.Forms.{tree-was-written}
 use Rattle.nodes.proofs.Painted.{painted-table}
 use Rattle.codec.specs.declared.fault.FileFault.{FileFault}
 use Rattle.codec.specs.declared.fault.FileFault.the-variants.{Tree, Trailing, TableLength}
-use Rattle.codec.specs.Files.{head-at, beds-at, of-tree, body-at, charted, balanced-in, file-at, fits, read-of}
+use Rattle.codec.specs.Files.{head-at, beds-at, of-tree, body-at, charted, balanced-in, file-at, read-of}
 use Rattle.codec.specs.Seen.{whether, Charts}
 
 -- ---- the body
@@ -115,33 +116,15 @@ file-told bs h at n t r eh eb charts en er =
     let b = some-body h (body-at (h .L) bs at) t eb charts in
     let told : r ≡ not (unbalanced (side h) (view (basin h t) .level)) = er ∙ ap (λ k. not (unbalanced k (λ x y. entry k 0 (t .levels) x y))) en in
     rw (eh, b .1)
-      (ap (λ u. balanced-in bs (basin h u)) (sym (b .2))
-      ∙ balance-told bs (basin h t) (unbalanced (side h) (view (basin h t) .level)) r told)
+    (ap (λ u. balanced-in bs (basin h u)) (sym (b .2))
+    ∙ balance-told bs (basin h t) (unbalanced (side h) (view (basin h t) .level)) r told)
 
 -- ---- what is answered and left
 pub read-refused : (bs : List ℕ) (t : Tables) (f : FileFault) → file-at bs ≡ Err f → (Err f, t) ≡ read-of bs t
 read-refused bs t f e = rw e refl
 
-pub read-misfit : (bs : List ℕ) (t : Tables) (b : Basin) → file-at bs ≡ Ok b → fits (b .head) t ≡ false → (Err (TableLength (length bs)), t) ≡ read-of bs t
+pub read-misfit : (bs : List ℕ) (t : Tables) (b : Basin) → file-at bs ≡ Ok b → misfit (b .head) t ≡ true → (Err (TableLength (length bs)), t) ≡ read-of bs t
 read-misfit bs t b e f = rw (e, f) refl
 
-pub read-granted : (bs : List ℕ) (t : Tables) (b : Basin) → file-at bs ≡ Ok b → fits (b .head) t ≡ true → (Ok (b .head), b .tables) ≡ read-of bs t
+pub read-granted : (bs : List ℕ) (t : Tables) (b : Basin) → file-at bs ≡ Ok b → misfit (b .head) t ≡ false → (Ok (b .head), b .tables) ≡ read-of bs t
 read-granted bs t b e f = rw (e, f) refl
-
-both : (x : Bool) → (x && false) ≡ false
-both true = refl
-both false = refl
-
-three : (x y : Bool) → (x && (y && false)) ≡ false
-three true y = both y
-three false y = refl
-
--- the lengths of three tables, and the entries n that they should have
-module _ (a b c n m : ℕ) (e : n ≡ m) where
-  pub misfits : (a ≡ n → ⊥) ⊎ ((a ≡ n) × (b ≡ n → ⊥)) ⊎ ((a ≡ n) × (b ≡ n) × (c ≡ n → ⊥)) → (eqb a m && (eqb b m && eqb c m)) ≡ false
-  misfits (inl w) = rw (ne-eqb a m (λ p. w (p ∙ sym e))) refl
-  misfits (inr (inl w)) = rw (ne-eqb b m (λ p. w .1 (p ∙ sym e))) (both (eqb a m))
-  misfits (inr (inr w)) = rw (ne-eqb c m (λ p. w .2 (p ∙ sym e))) (three (eqb a m) (eqb b m))
-
-  pub all-fit : a ≡ n → b ≡ n → c ≡ n → (eqb a m && (eqb b m && eqb c m)) ≡ true
-  all-fit p q r = rw (eq-eqb a m (p ∙ e), eq-eqb b m (q ∙ e), eq-eqb c m (r ∙ e)) refl

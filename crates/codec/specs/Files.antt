@@ -1,12 +1,13 @@
 -- The basin that a file holds, and what reading it leaves.
 use mathlib.Core.List.{List, [], _∷_, _++_}
-use mathlib.Core.Bool.{Bool, true, false, cond, _&&_}
+use mathlib.Core.Bool.{cond, _&&_}
 use Prim.Native.Nat.{ℕ, zero, suc, _+_, _-_, _*_}
 use lib.Dec.{leb, eqb}
 use lib.ListN.{length}
 use Rattle.std.specs.declared.result.Result.{Result}
 use Rattle.std.specs.declared.result.Result.the-variants.{Ok, Err}
 use Rattle.basin.specs.Basins.{Heading, Tables, tables, Basin, basin, side, view}
+use Rattle.basin.specs.Flaws.{misfit}
 use Rattle.basin.specs.Squares.{unbalanced}
 use Rattle.basin.specs.Tables.{table}
 use Rattle.numbers.specs.declared.fault.NumberFault.{NumberFault}
@@ -37,9 +38,9 @@ ranged-at bs at least most =
 abbrev pub head-at : List ℕ → Result (Heading × ℕ) FileFault
 head-at bs =
     after (ranged-at bs 0 0 6) (λ l.
-      after (ranged-at bs (l .1) 1 1000) (λ d.
-        after (ranged-at bs (d .1) 0 1000000) (λ w.
-          Ok (record { L = l .0; d = d .0; loose = w .0 }, w .1))))
+    after (ranged-at bs (l .1) 1 1000) (λ d.
+    after (ranged-at bs (d .1) 0 1000000) (λ w.
+    Ok (record { L = l .0; d = d .0; loose = w .0 }, w .1))))
 
 -- the squares of the basin with that head
 abbrev pub squares-of : Result (Heading × ℕ) FileFault → ℕ
@@ -58,17 +59,17 @@ beds-at count bs at = beds-from count bs at []
 unfoldable pub body-at : ℕ → List ℕ → ℕ → Result (trees.Tree × List ℕ) FileFault
 body-at L bs at =
     after (of-tree (node-at L bs at)) (λ t.
-      after (beds-at (trees.side L * trees.side L) bs (t .1)) (λ b.
-        cond (eqb (b .1) (length bs)) (Ok (t .0, b .0)) (Err (Trailing (b .1)))))
+    after (beds-at (trees.side L * trees.side L) bs (t .1)) (λ b.
+    cond (eqb (b .1) (length bs)) (Ok (t .0, b .0)) (Err (Trailing (b .1)))))
 
 -- the basin of a head, a tree and beds: each square has the level and the record of the leaf that it lies in
 abbrev pub charted : Heading → trees.Tree → List ℕ → Basin
 charted h t beds =
     basin h
-      (tables
-        (table (side h) (λ x y. h .L - found (h .L) t x y .height))
-        beds
-        (table (side h) (λ x y. found (h .L) t x y .leaf)))
+    (tables
+    (table (side h) (λ x y. h .L - found (h .L) t x y .height))
+    beds
+    (table (side h) (λ x y. found (h .L) t x y .leaf)))
 
 -- a basin whose tree is not balanced is a fault of the file that holds it
 abbrev pub balanced-in : List ℕ → Basin → Result Basin FileFault
@@ -79,15 +80,10 @@ unfoldable pub file-at : List ℕ → Result Basin FileFault
 file-at bs =
     after (head-at bs) (λ h. after (body-at (h .0 .L) bs (h .1)) (λ b. balanced-in bs (charted (h .0) (b .0) (b .1))))
 
--- the tables have an entry for each square of the head's basin
-abbrev pub fits : Heading → Tables → Bool
-fits h t =
-    eqb (length (t .levels)) (side h * side h) && (eqb (length (t .beds)) (side h * side h) && eqb (length (t .leaves)) (side h * side h))
-
 -- what a read answers, and what it leaves of the tables: those of the basin, or as they were
 abbrev pub granted : Result Basin FileFault → Tables → Result Heading FileFault × Tables
 granted (Ok b) t = (Ok (b .head), b .tables)
 granted (Err e) t = (Err e, t)
 
 abbrev pub read-of : List ℕ → Tables → Result Heading FileFault × Tables
-read-of bs t = granted (after (file-at bs) (λ b. cond (fits (b .head) t) (Ok b) (Err (TableLength (length bs))))) t
+read-of bs t = granted (after (file-at bs) (λ b. cond (misfit (b .head) t) (Err (TableLength (length bs))) (Ok b))) t

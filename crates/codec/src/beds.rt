@@ -4,7 +4,6 @@ ghost use lib.ListN.{length};
 ghost use Rattle.std.specs.Results.{Cases};
 ghost use Rattle.numbers.specs.Steps.{place};
 ghost use Rattle.codec.specs.Files.{beds-at};
-
 use crate::fault::FileFault;
 use crate::heading::read_ranged;
 

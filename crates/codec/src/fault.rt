@@ -3,7 +3,6 @@ ghost use mathlib.Core.Path.{_≡_};
 ghost use Rattle.nodes.specs.declared.fault.TreeFault.the-variants.{Number};
 ghost use Rattle.codec.specs.declared.fault.FileFault.the-variants.{Tree};
 ghost use Rattle.codec.specs.Reports.{file-report};
-
 use basin::refusal::Refusal;
 use nodes::fault::TreeFault;
 use nodes::fault::TreeFaultDebug;
@@ -32,9 +31,21 @@ impl FileFault {
     {
         match self {
             FileFault::Tree(fault) => fault.report(),
-            FileFault::Range(byte) => Report { refusal: Refusal::FileRange, byte, layer: Layer::File },
-            FileFault::Trailing(byte) => Report { refusal: Refusal::TrailingBytes, byte, layer: Layer::File },
-            FileFault::TableLength(byte) => Report { refusal: Refusal::TableLength, byte, layer: Layer::File },
+            FileFault::Range(byte) => Report {
+                refusal: Refusal::FileRange,
+                byte,
+                layer: Layer::File,
+            },
+            FileFault::Trailing(byte) => Report {
+                refusal: Refusal::TrailingBytes,
+                byte,
+                layer: Layer::File,
+            },
+            FileFault::TableLength(byte) => Report {
+                refusal: Refusal::TableLength,
+                byte,
+                layer: Layer::File,
+            },
         }
     }
 }

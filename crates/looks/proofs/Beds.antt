@@ -51,6 +51,6 @@ surface-is b x y n p s g en ep es eg =
     let at : p ≡ y * side (b .head) + x = ep ∙ ap (λ k. y * k + x) en in
     let wide : s ≡ 2 ^ (b .head .L - view b .level x y) = es ∙ ap (λ q. 2 ^ (b .head .L - getD (b .tables .levels) q 0)) at in
     let sum : g ≡ bed-sum (view b) (view b .level x y) x y =
-      eg ∙ (ap (λ k. grid s (λ i j. entry k 0 (b .tables .beds) (x / s * s + i) (y / s * s + j))) en
-      ∙ ap (λ w. grid w (λ i j. view b .bed (x / w * w + i) (y / w * w + j))) wide) in
+    eg ∙ (ap (λ k. grid s (λ i j. entry k 0 (b .tables .beds) (x / s * s + i) (y / s * s + j))) en
+    ∙ ap (λ w. grid w (λ i j. view b .bed (x / w * w + i) (y / w * w + j))) wide) in
     λ i. (getD (b .tables .leaves) (at i) dry .water + sum i) / (wide i * wide i)

@@ -6,7 +6,6 @@ ghost use Rattle.basin.specs.Basins.{heading, side, basin-of, view, Valid-basin
 ghost use Rattle.basin.specs.Squares.{surface};
 ghost use Rattle.basin.specs.Sums.{sum-below, grid};
 ghost use Rattle.basin.specs.Tables.{entry};
-
 use basin::head::Head;
 use basin::leaf::Leaf;
 use basin::size::place;
@@ -43,7 +42,14 @@ fn block_beds(beds: &[u16], n: usize, x: usize, y: usize, count: usize) -> u64
 }
 
 /// The surface number W at a square of a valid basin: water and beds of its leaf together, shared out over the leaf's area.
-pub fn surface_at(head: Head, levels: &[u8], beds: &[u16], leaves: &[Leaf], x: usize, y: usize) -> u64
+pub fn surface_at(
+    head: Head,
+    levels: &[u8],
+    beds: &[u16],
+    leaves: &[Leaf],
+    x: usize,
+    y: usize,
+) -> u64
     requires valid { ⌜ Valid-basin (basin-of head (now levels) (now beds) (now leaves)) ⌝ }
     requires east { ⌜ x < side (heading head) ⌝ }
     requires north { ⌜ y < side (heading head) ⌝ }

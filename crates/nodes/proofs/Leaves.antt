@@ -36,15 +36,15 @@ by-quarter : (P : Found → Type 0) (m : ℕ) (a b c d : Tree)
     → (x y : ℕ) → P (found (suc m) (four a b c d) x y)
 by-quarter P m a b c d ha hb hc hd x y =
     ⊎-elim
-      (λ (n : y < side m). ⊎-elim
-        (λ (e : x < side m). rw (found-sw m a b c d x y e n) (ha x y))
-        (λ (e : side m ≤ x). rw (found-se m a b c d x y e n) (hb (x - side m) y))
-        (cases-lt x (side m)))
-      (λ (n : side m ≤ y). ⊎-elim
-        (λ (e : x < side m). rw (found-nw m a b c d x y e n) (hc x (y - side m)))
-        (λ (e : side m ≤ x). rw (found-ne m a b c d x y e n) (hd (x - side m) (y - side m)))
-        (cases-lt x (side m)))
-      (cases-lt y (side m))
+    (λ (n : y < side m). ⊎-elim
+    (λ (e : x < side m). rw (found-sw m a b c d x y e n) (ha x y))
+    (λ (e : side m ≤ x). rw (found-se m a b c d x y e n) (hb (x - side m) y))
+    (cases-lt x (side m)))
+    (λ (n : side m ≤ y). ⊎-elim
+    (λ (e : x < side m). rw (found-nw m a b c d x y e n) (hc x (y - side m)))
+    (λ (e : side m ≤ x). rw (found-ne m a b c d x y e n) (hd (x - side m) (y - side m)))
+    (cases-lt x (side m)))
+    (cases-lt y (side m))
 
 -- ---- a leaf is no higher than its tree, and in its ranges
 pub record Leaf-of (h : ℕ) (f : Found) : Type 0 where
@@ -60,8 +60,8 @@ leaf-of h (one l) v x y = record { low = omega arith; in-range = v }
 leaf-of zero (four a b c d) v x y = absurd (omega (arith, v .0))
 leaf-of (suc m) (four a b c d) v x y =
     by-quarter (Leaf-of (suc m)) m a b c d
-      (λ x y. deeper m _ (leaf-of m a (v .1) x y)) (λ x y. deeper m _ (leaf-of m b (v .2) x y))
-      (λ x y. deeper m _ (leaf-of m c (v .3) x y)) (λ x y. deeper m _ (leaf-of m d (v .4) x y)) x y
+    (λ x y. deeper m _ (leaf-of m a (v .1) x y)) (λ x y. deeper m _ (leaf-of m b (v .2) x y))
+    (λ x y. deeper m _ (leaf-of m c (v .3) x y)) (λ x y. deeper m _ (leaf-of m d (v .4) x y)) x y
 
 -- ---- squares of one block of side 2^j, in a square of side 2^m, j at most m
 module _ (m j : ℕ) (h : j ≤ m) where
@@ -100,6 +100,7 @@ module _ (m j : ℕ) (h : j ≤ m) where
                   let e : c ≡ q + 1 + (c - q - 1) = omega arith in
                   let f : c * s ≡ (q + 1 + (c - q - 1)) * s = ap (λ n. n * s) e in
                   omega arith
+
           minus : (c q r s x n : ℕ) → c ≤ q → q * s + r ≡ x → n ≡ c * s → x - n ≡ (q - c) * s + r
           minus c q r s x n a b e =
               let f : q ≡ c + (q - c) = omega arith in
@@ -118,38 +119,38 @@ one-leaf-four : (m : ℕ) (a b c d : Tree) → Sound (suc m) (four a b c d) → 
     → One-leaf (suc m) (four a b c d)
 one-leaf-four m a b c d v ia ib ic id x y p q j k e f =
     ⊎-elim
-      (λ (n : y < side m). ⊎-elim
-        (λ (w : x < side m).
-          let o = found-sw m a b c d x y w n in
-          let i : found m a x y .height ≡ j = sym (ap (λ (g : Found). g .height) o) ∙ k in
-          let h : j ≤ m = omega (arith, leaf-of m a (v .1) x y .low) in
-          found-sw m a b c d p q (below-with m j h x p e w) (below-with m j h y q f n) ∙ (ia x y p q j i e f ∙ sym o))
-        (λ (w : side m ≤ x).
-          let o = found-se m a b c d x y w n in
-          let i : found m b (x - side m) y .height ≡ j = sym (ap (λ (g : Found). g .height) o) ∙ k in
-          let h : j ≤ m = omega (arith, leaf-of m b (v .2) (x - side m) y .low) in
-          let u = above-with m j h x p e w in
-          found-se m a b c d p q u (below-with m j h y q f n)
-          ∙ (ib (x - side m) y (p - side m) q j i (back-with m j h x p e w u) f ∙ sym o))
-        (cases-lt x (side m)))
-      (λ (n : side m ≤ y). ⊎-elim
-        (λ (w : x < side m).
-          let o = found-nw m a b c d x y w n in
-          let i : found m c x (y - side m) .height ≡ j = sym (ap (λ (g : Found). g .height) o) ∙ k in
-          let h : j ≤ m = omega (arith, leaf-of m c (v .3) x (y - side m) .low) in
-          let u = above-with m j h y q f n in
-          found-nw m a b c d p q (below-with m j h x p e w) u
-          ∙ (ic x (y - side m) p (q - side m) j i e (back-with m j h y q f n u) ∙ sym o))
-        (λ (w : side m ≤ x).
-          let o = found-ne m a b c d x y w n in
-          let i : found m d (x - side m) (y - side m) .height ≡ j = sym (ap (λ (g : Found). g .height) o) ∙ k in
-          let h : j ≤ m = omega (arith, leaf-of m d (v .4) (x - side m) (y - side m) .low) in
-          let u = above-with m j h x p e w in
-          let t = above-with m j h y q f n in
-          found-ne m a b c d p q u t
-          ∙ (id (x - side m) (y - side m) (p - side m) (q - side m) j i (back-with m j h x p e w u) (back-with m j h y q f n t) ∙ sym o))
-        (cases-lt x (side m)))
-      (cases-lt y (side m))
+    (λ (n : y < side m). ⊎-elim
+    (λ (w : x < side m).
+    let o = found-sw m a b c d x y w n in
+    let i : found m a x y .height ≡ j = sym (ap (λ (g : Found). g .height) o) ∙ k in
+    let h : j ≤ m = omega (arith, leaf-of m a (v .1) x y .low) in
+    found-sw m a b c d p q (below-with m j h x p e w) (below-with m j h y q f n) ∙ (ia x y p q j i e f ∙ sym o))
+    (λ (w : side m ≤ x).
+    let o = found-se m a b c d x y w n in
+    let i : found m b (x - side m) y .height ≡ j = sym (ap (λ (g : Found). g .height) o) ∙ k in
+    let h : j ≤ m = omega (arith, leaf-of m b (v .2) (x - side m) y .low) in
+    let u = above-with m j h x p e w in
+    found-se m a b c d p q u (below-with m j h y q f n)
+    ∙ (ib (x - side m) y (p - side m) q j i (back-with m j h x p e w u) f ∙ sym o))
+    (cases-lt x (side m)))
+    (λ (n : side m ≤ y). ⊎-elim
+    (λ (w : x < side m).
+    let o = found-nw m a b c d x y w n in
+    let i : found m c x (y - side m) .height ≡ j = sym (ap (λ (g : Found). g .height) o) ∙ k in
+    let h : j ≤ m = omega (arith, leaf-of m c (v .3) x (y - side m) .low) in
+    let u = above-with m j h y q f n in
+    found-nw m a b c d p q (below-with m j h x p e w) u
+    ∙ (ic x (y - side m) p (q - side m) j i e (back-with m j h y q f n u) ∙ sym o))
+    (λ (w : side m ≤ x).
+    let o = found-ne m a b c d x y w n in
+    let i : found m d (x - side m) (y - side m) .height ≡ j = sym (ap (λ (g : Found). g .height) o) ∙ k in
+    let h : j ≤ m = omega (arith, leaf-of m d (v .4) (x - side m) (y - side m) .low) in
+    let u = above-with m j h x p e w in
+    let t = above-with m j h y q f n in
+    found-ne m a b c d p q u t
+    ∙ (id (x - side m) (y - side m) (p - side m) (q - side m) j i (back-with m j h x p e w u) (back-with m j h y q f n t) ∙ sym o))
+    (cases-lt x (side m)))
+    (cases-lt y (side m))
 
 pub one-leaf : (h : ℕ) (t : Tree) → Sound h t → One-leaf h t
 unfolding found

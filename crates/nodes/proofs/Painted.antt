@@ -83,14 +83,14 @@ square-in (suc rows) n w p j i v d t r h m l =
     let more : suc rows * n ≡ rows * n + n = omega arith in
     ⊎-elim
     (λ (e : j ≡ rows).
-      let at : j * n ≡ rows * n = ap (λ k. k * n) e in
-      let q = row-in w (p + rows * n) i v d (square rows n w p v t) h (omega (arith, length-square rows n w p v t)) in
-      rw at q)
+    let at : j * n ≡ rows * n = ap (λ k. k * n) e in
+    let q = row-in w (p + rows * n) i v d (square rows n w p v t) h (omega (arith, length-square rows n w p v t)) in
+    rw at q)
     (λ (e : j ≡ rows → ⊥).
-      let below : j + 1 ≤ rows = omega arith in
-      let far = mul-le-mul-right n below in
-      row-out w (p + rows * n) (p + j * n + i) v d (square rows n w p v t) (λ k b q. omega (arith, far, add-mul j 1 n, one-mul n))
-      ∙ square-in rows n w p j i v d t (omega arith) h m (omega arith))
+    let below : j + 1 ≤ rows = omega arith in
+    let far = mul-le-mul-right n below in
+    row-out w (p + rows * n) (p + j * n + i) v d (square rows n w p v t) (λ k b q. omega (arith, far, add-mul j 1 n, one-mul n))
+    ∙ square-in rows n w p j i v d t (omega arith) h m (omega arith))
     (cases-eq j rows)
 
 -- ---- the four quarters
@@ -180,31 +180,31 @@ module _ {A : Type 0} (pick : ℕ → Leaf → A) (n : ℕ) (d : A) where
         let lb = length-painted pick n m se (p + s) ta in
         let lc = length-painted pick n m nw (p + s * n) tb in
         ⊎-elim
-          (λ (north : y < s). ⊎-elim
-            (λ (east : x < s).
-              rw (lt-ltb y s north, lt-ltb x s east)
-                (past-three pick n m p d wide se nw ne ta (p + y * n + x) (v .2) (v .3) (v .4) (y, x, north, east, refl)
-                ∙ ia p x y u east north (omega arith) (omega arith)))
-            (λ (east : s ≤ x).
-              let k : p + y * n + x ≡ p + s + y * n + (x - s) = omega arith in
-              rw (lt-ltb y s north, le-ltb x s east, k)
-                (past-north pick n m p d wide nw ne tb (p + s + y * n + (x - s)) (v .3) (v .4) (y, x - s, north, omega arith, refl)
-                ∙ ib (p + s) (x - s) y ta (omega arith) north (omega arith) (omega arith)))
-            (cases-lt x s))
-          (λ (north : s ≤ y).
-            let rows : y * n ≡ s * n + (y - s) * n = ap (λ k. k * n) (split y s north) ∙ add-mul s (y - s) n in
-            ⊎-elim
-            (λ (east : x < s).
-              let k : p + y * n + x ≡ p + s * n + (y - s) * n + x = omega arith in
-              rw (le-ltb y s north, lt-ltb x s east, k)
-                (past-ne pick n m p d wide ne tc (p + s * n + (y - s) * n + x) (v .4) (y - s, x, omega arith, east, refl)
-                ∙ ic (p + s * n) x (y - s) tb east (omega arith) (omega arith) (omega arith)))
-            (λ (east : s ≤ x).
-              let k : p + y * n + x ≡ p + s * n + s + (y - s) * n + (x - s) = omega arith in
-              rw (le-ltb y s north, le-ltb x s east, k)
-                (id (p + s * n + s) (x - s) (y - s) tc (omega arith) (omega arith) (omega arith) (omega arith)))
-            (cases-lt x s))
-          (cases-lt y s)
+        (λ (north : y < s). ⊎-elim
+        (λ (east : x < s).
+        rw (lt-ltb y s north, lt-ltb x s east)
+        (past-three pick n m p d wide se nw ne ta (p + y * n + x) (v .2) (v .3) (v .4) (y, x, north, east, refl)
+        ∙ ia p x y u east north (omega arith) (omega arith)))
+        (λ (east : s ≤ x).
+        let k : p + y * n + x ≡ p + s + y * n + (x - s) = omega arith in
+        rw (lt-ltb y s north, le-ltb x s east, k)
+        (past-north pick n m p d wide nw ne tb (p + s + y * n + (x - s)) (v .3) (v .4) (y, x - s, north, omega arith, refl)
+        ∙ ib (p + s) (x - s) y ta (omega arith) north (omega arith) (omega arith)))
+        (cases-lt x s))
+        (λ (north : s ≤ y).
+        let rows : y * n ≡ s * n + (y - s) * n = ap (λ k. k * n) (split y s north) ∙ add-mul s (y - s) n in
+        ⊎-elim
+        (λ (east : x < s).
+        let k : p + y * n + x ≡ p + s * n + (y - s) * n + x = omega arith in
+        rw (le-ltb y s north, lt-ltb x s east, k)
+        (past-ne pick n m p d wide ne tc (p + s * n + (y - s) * n + x) (v .4) (y - s, x, omega arith, east, refl)
+        ∙ ic (p + s * n) x (y - s) tb east (omega arith) (omega arith) (omega arith)))
+        (λ (east : s ≤ x).
+        let k : p + y * n + x ≡ p + s * n + s + (y - s) * n + (x - s) = omega arith in
+        rw (le-ltb y s north, le-ltb x s east, k)
+        (id (p + s * n + s) (x - s) (y - s) tc (omega arith) (omega arith) (omega arith) (omega arith)))
+        (cases-lt x s))
+        (cases-lt y s)
       where
         split : (y s : ℕ) → s ≤ y → y ≡ s + (y - s)
         split y s h = omega arith
@@ -220,6 +220,6 @@ pub painted-table : {A : Type 0} (pick : ℕ → Leaf → A) (h : ℕ) (t : Tree
     → painted pick (side h) h t 0 u ≡ table (side h) (λ x y. pick (found h t x y .height) (found h t x y .leaf))
 painted-table pick h t d u v e =
     tabled (side h) (painted pick (side h) h t 0 u) d _ (length-painted pick (side h) h t 0 u ∙ e)
-      (λ x y a b.
-        let z : 0 + y * side h + x ≡ y * side h + x = omega arith in
-        rw z at (shows pick (side h) d h t v 0 x y u a b (omega arith) (omega arith)))
+    (λ x y a b.
+    let z : 0 + y * side h + x ≡ y * side h + x = omega arith in
+    rw z at (shows pick (side h) d h t v 0 x y u a b (omega arith) (omega arith)))

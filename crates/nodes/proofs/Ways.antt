@@ -89,8 +89,8 @@ drawn-four pick n height w p node at a b c t₀ t₁ t₂ t₃ t₄ ew ea eb ec 
     let q₂ = placed (node a) b eb in
     let q₃ = placed (node b) c ec in
     rw (add-one, q₁ .1, q₂ .1, q₃ .1)
-      (painted-four pick n height p (q₁ .0) (q₂ .0) (q₃ .0) (node c) t₀ t₁ t₂ t₃ t₄
-        (rw (q₁ .1) at d₁) (rw (q₂ .1, ew) at d₂) (rw (q₃ .1, ew) at d₃) (rw ew at d₄))
+    (painted-four pick n height p (q₁ .0) (q₂ .0) (q₃ .0) (node c) t₀ t₁ t₂ t₃ t₄
+    (rw (q₁ .1) at d₁) (rw (q₂ .1, ew) at d₂) (rw (q₃ .1, ew) at d₃) (rw ew at d₄))
 
 place-last : (x y z : Tree) (r : Result (Tree × ℕ) TreeFault) → place r ≡ place (after r (λ d. Ok (four x y z (d .0), d .1)))
 place-last x y z (Ok d) = refl

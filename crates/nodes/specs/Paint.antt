@@ -25,9 +25,9 @@ unfoldable pub painted : {A : Type 0} → (ℕ → Leaf → A) → (n height : �
 painted pick n height (one l) p t = square (side height) n (side height) p (pick height l) t
 painted pick n height (four sw se nw ne) p t =
     painted pick n (pred height) ne (p + side (pred height) * n + side (pred height))
-      (painted pick n (pred height) nw (p + side (pred height) * n)
-        (painted pick n (pred height) se (p + side (pred height))
-          (painted pick n (pred height) sw p t)))
+    (painted pick n (pred height) nw (p + side (pred height) * n)
+    (painted pick n (pred height) se (p + side (pred height))
+    (painted pick n (pred height) sw p t)))
 
 -- what a reader makes of a table t: where a tree was read, the table is painted
 abbrev pub Drawn : {A : Type 0} → (ℕ → Leaf → A) → ℕ → ℕ → ℕ → Result (Tree × ℕ) TreeFault → List A → List A → Type 0

@@ -38,25 +38,25 @@ discharge-at bs at water = after (carried (signed-at bs at)) (λ q. cond (may-ru
 abbrev pub leaf-at : List ℕ → ℕ → ℕ → Result (Leaf × ℕ) TreeFault
 leaf-at bs at area =
     after (carried (number-at bs at)) (λ v.
-      cond (may-hold area (v .0))
-        (after (discharge-at bs (v .1) (v .0)) (λ x.
-          after (discharge-at bs (x .1) (v .0)) (λ y.
-            Ok (record { water = v .0; east = x .0; north = y .0 }, y .1))))
-        (Err (Range at)))
+    cond (may-hold area (v .0))
+    (after (discharge-at bs (v .1) (v .0)) (λ x.
+    after (discharge-at bs (x .1) (v .0)) (λ y.
+    Ok (record { water = v .0; east = x .0; north = y .0 }, y .1))))
+    (Err (Range at)))
 
 -- four nodes one after another
 abbrev pub quarters-by : (ℕ → Result (Tree × ℕ) TreeFault) → ℕ → Result (Tree × ℕ) TreeFault
 quarters-by node at =
     after (node at) (λ a. after (node (a .1)) (λ b. after (node (b .1)) (λ c. after (node (c .1)) (λ d.
-      Ok (four (a .0) (b .0) (c .0) (d .0), d .1)))))
+    Ok (four (a .0) (b .0) (c .0) (d .0), d .1)))))
 
 -- a node of this area, whose quarters are read by quarters, from the mark's place and the place after it
 abbrev pub node-by : (ℕ → ℕ → Result (Tree × ℕ) TreeFault) → ℕ → List ℕ → ℕ → Result (Tree × ℕ) TreeFault
 node-by quarters area bs at =
     after (carried (number-at bs at)) (λ m.
-      cond (eqb (m .0) 0)
-        (after (leaf-at bs (m .1) area) (λ l. Ok (one (l .0), l .1)))
-        (cond (eqb (m .0) 1) (quarters at (m .1)) (Err (Range at))))
+    cond (eqb (m .0) 0)
+    (after (leaf-at bs (m .1) area) (λ l. Ok (one (l .0), l .1)))
+    (cond (eqb (m .0) 1) (quarters at (m .1)) (Err (Range at))))
 
 -- a node with this many levels below it; one with none is not cut
 unfoldable pub node-at : ℕ → List ℕ → ℕ → Result (Tree × ℕ) TreeFault
@@ -78,10 +78,10 @@ unfoldable pub found : ℕ → Tree → ℕ → ℕ → Found
 found height (one l) x y = record { height = height; leaf = l }
 found height (four sw se nw ne) x y =
     cond (ltb y (side (pred height)))
-      (cond (ltb x (side (pred height))) (found (pred height) sw x y) (found (pred height) se (x - side (pred height)) y))
-      (cond (ltb x (side (pred height)))
-        (found (pred height) nw x (y - side (pred height)))
-        (found (pred height) ne (x - side (pred height)) (y - side (pred height))))
+    (cond (ltb x (side (pred height))) (found (pred height) sw x y) (found (pred height) se (x - side (pred height)) y))
+    (cond (ltb x (side (pred height)))
+    (found (pred height) nw x (y - side (pred height)))
+    (found (pred height) ne (x - side (pred height)) (y - side (pred height))))
 
 -- a tree of at most this height, its records in their ranges
 abbrev pub Sound : ℕ → Tree → Type 0

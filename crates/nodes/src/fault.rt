@@ -2,7 +2,6 @@
 ghost use mathlib.Core.Path.{_≡_};
 ghost use Rattle.nodes.specs.declared.fault.TreeFault.the-variants.{Number};
 ghost use Rattle.nodes.specs.Reports.{tree-report};
-
 use basin::refusal::Refusal;
 use numbers::fault::NumberFault;
 use numbers::fault::NumberFaultDebug;
@@ -28,8 +27,16 @@ impl TreeFault {
     {
         match self {
             TreeFault::Number(fault) => fault.report(),
-            TreeFault::Range(byte) => Report { refusal: Refusal::FileRange, byte, layer: Layer::Tree },
-            TreeFault::Unbalanced(byte) => Report { refusal: Refusal::NotABasin, byte, layer: Layer::Tree },
+            TreeFault::Range(byte) => Report {
+                refusal: Refusal::FileRange,
+                byte,
+                layer: Layer::Tree,
+            },
+            TreeFault::Unbalanced(byte) => Report {
+                refusal: Refusal::NotABasin,
+                byte,
+                layer: Layer::Tree,
+            },
         }
     }
 }

@@ -5,7 +5,6 @@ ghost use Prim.Native.Nat.{_+_};
 ghost use Rattle.numbers.specs.Steps.{place};
 ghost use Rattle.nodes.specs.Trees.{node-at, quarters-at};
 ghost use Rattle.nodes.specs.Paint.{Drawn, level-of, record-of, Placed, Placed-four};
-
 use crate::fault::TreeFault;
 use crate::fault::TreeFromNumber;
 use crate::paint::fill_block;
@@ -35,7 +34,13 @@ pub struct Spot {
 }
 
 /// Reads the node at `at` into its spot of both tables, and answers the place after it.
-pub fn read_node(bytes: &[u8], at: usize, spot: Spot, levels: &mut [u8], leaves: &mut [Leaf]) -> Result<usize, TreeFault>
+pub fn read_node(
+    bytes: &[u8],
+    at: usize,
+    spot: Spot,
+    levels: &mut [u8],
+    leaves: &mut [Leaf],
+) -> Result<usize, TreeFault>
     requires { ⌜ Placed spot (length (now levels)) (length (now leaves)) ⌝ }
     ensures next { λ r. ⌜ r ≡ place (node-at (spot .height) (now (bytes .entry)) at) ⌝ }
     ensures levels { λ r. ⌜ Drawn (level-of (spot .levels)) (spot .stride) (spot .height) (spot .corner) (node-at (spot .height) (now (bytes .entry)) at) (now (levels .entry)) (now (levels .exit)) ⌝ }
@@ -44,18 +49,40 @@ pub fn read_node(bytes: &[u8], at: usize, spot: Spot, levels: &mut [u8], leaves:
     let (mark, next) = read_number(bytes, at)?;
     if mark == LEAF {
         let (leaf, end) = read_leaf(bytes, next, spot.side * spot.side)?;
-        fill_block(levels, spot.corner, spot.side, spot.stride, spot.levels - spot.height);
+        fill_block(
+            levels,
+            spot.corner,
+            spot.side,
+            spot.stride,
+            spot.levels - spot.height,
+        );
         fill_block(leaves, spot.corner, spot.side, spot.stride, leaf);
         Ok(end)
     } else if mark == CUT && spot.height > 0 {
-        read_quarters(bytes, next, Spot { height: spot.height - 1, side: spot.side / 2, ..spot }, levels, leaves)
+        read_quarters(
+            bytes,
+            next,
+            Spot {
+                height: spot.height - 1,
+                side: spot.side / 2,
+                ..spot
+            },
+            levels,
+            leaves,
+        )
     } else {
         Err(TreeFault::Range(at))
     }
 }
 
 /// Reads four nodes, south-west, south-east, north-west and north-east, the first of them into `spot`.
-fn read_quarters(bytes: &[u8], at: usize, spot: Spot, levels: &mut [u8], leaves: &mut [Leaf]) -> Result<usize, TreeFault>
+fn read_quarters(
+    bytes: &[u8],
+    at: usize,
+    spot: Spot,
+    levels: &mut [u8],
+    leaves: &mut [Leaf],
+) -> Result<usize, TreeFault>
     requires { ⌜ Placed-four spot (length (now levels)) (length (now leaves)) ⌝ }
     ensures next { λ r. ⌜ r ≡ place (quarters-at (spot .height) (now (bytes .entry)) at) ⌝ }
     ensures levels { λ r. ⌜ Drawn (level-of (spot .levels)) (spot .stride) (spot .height + 1) (spot .corner) (quarters-at (spot .height) (now (bytes .entry)) at) (now (levels .entry)) (now (levels .exit)) ⌝ }
@@ -63,7 +90,34 @@ fn read_quarters(bytes: &[u8], at: usize, spot: Spot, levels: &mut [u8], leaves:
 {
     let north = spot.corner + spot.side * spot.stride;
     let sw = read_node(bytes, at, spot, levels, leaves)?;
-    let se = read_node(bytes, sw, Spot { corner: spot.corner + spot.side, ..spot }, levels, leaves)?;
-    let nw = read_node(bytes, se, Spot { corner: north, ..spot }, levels, leaves)?;
-    read_node(bytes, nw, Spot { corner: north + spot.side, ..spot }, levels, leaves)
+    let se = read_node(
+        bytes,
+        sw,
+        Spot {
+            corner: spot.corner + spot.side,
+            ..spot
+        },
+        levels,
+        leaves,
+    )?;
+    let nw = read_node(
+        bytes,
+        se,
+        Spot {
+            corner: north,
+            ..spot
+        },
+        levels,
+        leaves,
+    )?;
+    read_node(
+        bytes,
+        nw,
+        Spot {
+            corner: north + spot.side,
+            ..spot
+        },
+        levels,
+        leaves,
+    )
 }

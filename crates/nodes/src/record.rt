@@ -2,7 +2,6 @@
 ghost use mathlib.Core.Path.{_≡_};
 ghost use Prim.Native.Nat.{_≤_};
 ghost use Rattle.nodes.specs.Trees.{discharge-at, leaf-at};
-
 use crate::fault::TreeFault;
 use crate::fault::TreeFromNumber;
 use basin::leaf::Leaf;

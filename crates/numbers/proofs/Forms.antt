@@ -54,37 +54,39 @@ groups-back : (k : ℕ) → Back k
 groups-back zero bs post start at acc unit v h s p e = absurd (omega arith)
 groups-back (suc k) bs post start at acc unit v h s p e = ⊎-elim last (rest (groups-back k)) (cases-lt v 128)
   where
-  Goal : Type 0
-  Goal = (groups-at (suc k) bs start at acc unit ≡ Ok (acc + unit * v, at + length (groups (suc k) v))) × (drop (at + length (groups (suc k) v)) bs ≡ post)
-  last : v < 128 → Goal
-  last l =
-    let g = groups-last k v l in
-    let r = head-of bs at v post (rw g at e) in
-    rw g (sym (rw (r .1) at (done (suc k) bs start at acc unit (omega arith) (r .0) (rw (r .1) l) (λ z b. s b (sym (r .1) ∙ z)))), r .2)
-  rest : Back k → 128 ≤ v → Goal
-  rest back l =
-    let g = groups-more k v l in
-    let r = head-of bs at (v % 128 + 128) (groups k (v / 128) ++ post) (rw g at e) in
-    let h′ = rw pow-suc at h in
-    let hw : v / 128 < 128 ^ k = omega arith in
-    let hk = positive k (v / 128) hw (omega arith) in
-    let ih = back bs post start (at + 1) (acc + unit * (v % 128)) (unit * 128) (v / 128) hw (λ _ z. omega arith) hk (r .2) in
-    let sk : suc k - 1 ≡ k = omega arith in
-    let bv : getD bs at 0 - 128 ≡ v % 128 = omega arith in
-    let m = rw (sk, bv) at (more (suc k) bs start at acc unit (omega arith) (r .0) (omega arith)) in
-    let value : acc + unit * (v % 128) + unit * 128 * (v / 128) ≡ acc + unit * v =
-      omega (arith, ap (λ n. unit * n) (div-add-mod v 128), mul-add unit (128 * (v / 128)) (v % 128), mul-assoc unit 128 (v / 128)) in
-    let place : at + 1 + length (groups k (v / 128)) ≡ at + suc (length (groups k (v / 128))) = omega arith in
-    let ok : groups-at (suc k) bs start at acc unit ≡ Ok (acc + unit * v, at + suc (length (groups k (v / 128)))) = m ∙ rw (value, place) at (ih .0) in
-    let left : drop (at + suc (length (groups k (v / 128)))) bs ≡ post = rw place at (ih .1) in
-    rw g (ok, left)
+    Goal : Type 0
+    Goal = (groups-at (suc k) bs start at acc unit ≡ Ok (acc + unit * v, at + length (groups (suc k) v))) × (drop (at + length (groups (suc k) v)) bs ≡ post)
+
+    last : v < 128 → Goal
+    last l =
+        let g = groups-last k v l in
+        let r = head-of bs at v post (rw g at e) in
+        rw g (sym (rw (r .1) at (done (suc k) bs start at acc unit (omega arith) (r .0) (rw (r .1) l) (λ z b. s b (sym (r .1) ∙ z)))), r .2)
+
+    rest : Back k → 128 ≤ v → Goal
+    rest back l =
+        let g = groups-more k v l in
+        let r = head-of bs at (v % 128 + 128) (groups k (v / 128) ++ post) (rw g at e) in
+        let h′ = rw pow-suc at h in
+        let hw : v / 128 < 128 ^ k = omega arith in
+        let hk = positive k (v / 128) hw (omega arith) in
+        let ih = back bs post start (at + 1) (acc + unit * (v % 128)) (unit * 128) (v / 128) hw (λ _ z. omega arith) hk (r .2) in
+        let sk : suc k - 1 ≡ k = omega arith in
+        let bv : getD bs at 0 - 128 ≡ v % 128 = omega arith in
+        let m = rw (sk, bv) at (more (suc k) bs start at acc unit (omega arith) (r .0) (omega arith)) in
+        let value : acc + unit * (v % 128) + unit * 128 * (v / 128) ≡ acc + unit * v =
+        omega (arith, ap (λ n. unit * n) (div-add-mod v 128), mul-add unit (128 * (v / 128)) (v % 128), mul-assoc unit 128 (v / 128)) in
+        let place : at + 1 + length (groups k (v / 128)) ≡ at + suc (length (groups k (v / 128))) = omega arith in
+        let ok : groups-at (suc k) bs start at acc unit ≡ Ok (acc + unit * v, at + suc (length (groups k (v / 128)))) = m ∙ rw (value, place) at (ih .0) in
+        let left : drop (at + suc (length (groups k (v / 128)))) bs ≡ post = rw place at (ih .1) in
+        rw g (ok, left)
 
 pub written-is-read : Written-is-read
 written-is-read bs post at v h e = groups-back-at-0 (groups-back 6 bs post at at 0 1 v h (λ b z. omega arith) (omega arith) e)
   where
-  groups-back-at-0 : (groups-at 6 bs at at 0 1 ≡ Ok (0 + 1 * v, at + length (groups 6 v))) × (drop (at + length (groups 6 v)) bs ≡ post)
-    → (number-at bs at ≡ Ok (v, at + length (number v))) × (drop (at + length (number v)) bs ≡ post)
-  groups-back-at-0 r = let z : 0 + 1 * v ≡ v = omega arith in (rw z at (r .0), r .1)
+    groups-back-at-0 : (groups-at 6 bs at at 0 1 ≡ Ok (0 + 1 * v, at + length (groups 6 v))) × (drop (at + length (groups 6 v)) bs ≡ post)
+        → (number-at bs at ≡ Ok (v, at + length (number v))) × (drop (at + length (number v)) bs ≡ post)
+    groups-back-at-0 r = let z : 0 + 1 * v ≡ v = omega arith in (rw z at (r .0), r .1)
 
 -- what was read of the groups is the one way to write it
 abbrev Form : ℕ → Type 0
@@ -97,36 +99,42 @@ unfolding groups-at
 groups-form zero bs start at acc unit w q small o e = let z : _≡_ {A = ℕ} 0 1 = cc in absurd (omega arith)
 groups-form (suc k) bs start at acc unit w q small o e =
     ⊎-elim (λ l. ⊎-elim (last l) (rest (groups-form k) l) (cases-lt (getD bs at 0) 128))
-      (λ l. absurd (never (Ended start) (ended (suc k) bs start at acc unit (omega arith) l))) (cases-lt at (length bs))
+    (λ l. absurd (never (Ended start) (ended (suc k) bs start at acc unit (omega arith) l))) (cases-lt at (length bs))
   where
-  Goal : Type 0
-  Goal = (x : ℕ) × (w ≡ acc + unit * x) × (drop at bs ≡ groups (suc k) x ++ drop q bs) × (start < at → x ≡ 0 → ⊥)
-  never : (f : NumberFault) → Err f ≡ groups-at (suc k) bs start at acc unit → ⊥
-  never f d = let z : _≡_ {A = ℕ} 0 1 = cc (d ∙ e) in omega arith
-  last : at < length bs → getD bs at 0 < 128 → Goal
-  last l b =
-    let n : getD bs at 0 ≡ 0 → start < at → ⊥ = λ z s. never (Malformed start) (padded (suc k) bs start at acc unit (omega arith) l z s) in
-    let d = done (suc k) bs start at acc unit (omega arith) l b n ∙ e in
-    let pe : _≡_ {A = ℕ × ℕ} (acc + unit * getD bs at 0, at + 1) (w, q) = cc d in
-    let qe : at + 1 ≡ q = ap (λ (p : ℕ × ℕ). p .1) pe in
-    (getD bs at 0, sym (ap (λ (p : ℕ × ℕ). p .0) pe),
-     rw (groups-last k (getD bs at 0) b, ← qe) (drop-more bs at l),
-     λ s z. n z s)
-  rest : Form k → at < length bs → 128 ≤ getD bs at 0 → Goal
-  rest form l b =
-    let sk : suc k - 1 ≡ k = omega arith in
-    let m = rw sk at (more (suc k) bs start at acc unit (omega arith) l b) in
-    let ih = form bs start (at + 1) (acc + unit * (getD bs at 0 - 128)) (unit * 128) w q small (omega arith) (sym m ∙ e) in
-    let x : ℕ = getD bs at 0 - 128 + 128 * ih .0 in
-    let nz : ih .0 ≡ 0 → ⊥ = ih .3 (omega arith) in
-    let below : getD bs at 0 < 256 = small at in
-    let large : 128 ≤ getD bs at 0 - 128 + 128 * ih .0 = omega arith in
-    let low : (getD bs at 0 - 128 + 128 * ih .0) % 128 + 128 ≡ getD bs at 0 = omega arith in
-    let high : (getD bs at 0 - 128 + 128 * ih .0) / 128 ≡ ih .0 = omega arith in
-    (getD bs at 0 - 128 + 128 * ih .0,
-     omega (arith, ih .1, mul-add unit (getD bs at 0 - 128) (128 * ih .0), mul-assoc unit 128 (ih .0)),
-     rw (groups-more k (getD bs at 0 - 128 + 128 * ih .0) large, low, high) (drop-more bs at l ∙ ap (λ t. getD bs at 0 ∷ t) (ih .2)),
-     λ s z. omega arith)
+    Goal : Type 0
+    Goal = (x : ℕ) × (w ≡ acc + unit * x) × (drop at bs ≡ groups (suc k) x ++ drop q bs) × (start < at → x ≡ 0 → ⊥)
+
+    never : (f : NumberFault) → Err f ≡ groups-at (suc k) bs start at acc unit → ⊥
+    never f d = let z : _≡_ {A = ℕ} 0 1 = cc (d ∙ e) in omega arith
+
+    last : at < length bs → getD bs at 0 < 128 → Goal
+    last l b =
+        let n : getD bs at 0 ≡ 0 → start < at → ⊥ = λ z s. never (Malformed start) (padded (suc k) bs start at acc unit (omega arith) l z s) in
+        let d = done (suc k) bs start at acc unit (omega arith) l b n ∙ e in
+        let pe : _≡_ {A = ℕ × ℕ} (acc + unit * getD bs at 0, at + 1) (w, q) = cc d in
+        let qe : at + 1 ≡ q = ap (λ (p : ℕ × ℕ). p .1) pe in (
+          getD bs at 0,
+          sym (ap (λ (p : ℕ × ℕ). p .0) pe),
+          rw (groups-last k (getD bs at 0) b, ← qe) (drop-more bs at l),
+          λ s z. n z s,
+        )
+
+    rest : Form k → at < length bs → 128 ≤ getD bs at 0 → Goal
+    rest form l b =
+        let sk : suc k - 1 ≡ k = omega arith in
+        let m = rw sk at (more (suc k) bs start at acc unit (omega arith) l b) in
+        let ih = form bs start (at + 1) (acc + unit * (getD bs at 0 - 128)) (unit * 128) w q small (omega arith) (sym m ∙ e) in
+        let x : ℕ = getD bs at 0 - 128 + 128 * ih .0 in
+        let nz : ih .0 ≡ 0 → ⊥ = ih .3 (omega arith) in
+        let below : getD bs at 0 < 256 = small at in
+        let large : 128 ≤ getD bs at 0 - 128 + 128 * ih .0 = omega arith in
+        let low : (getD bs at 0 - 128 + 128 * ih .0) % 128 + 128 ≡ getD bs at 0 = omega arith in
+        let high : (getD bs at 0 - 128 + 128 * ih .0) / 128 ≡ ih .0 = omega arith in (
+          getD bs at 0 - 128 + 128 * ih .0,
+          omega (arith, ih .1, mul-add unit (getD bs at 0 - 128) (128 * ih .0), mul-assoc unit 128 (ih .0)),
+          rw (groups-more k (getD bs at 0 - 128 + 128 * ih .0) large, low, high) (drop-more bs at l ∙ ap (λ t. getD bs at 0 ∷ t) (ih .2)),
+          λ s z. omega arith,
+        )
 
 pub read-was-written : Read-was-written
 read-was-written bs at v q small e =

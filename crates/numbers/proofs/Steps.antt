@@ -15,6 +15,10 @@ pub when : {A E : Type 0} (t : Bool) (f : E) (r : Result A E) (y : A) → cond t
 when true f r y e = (refl, e)
 when false f r y e = let z : _≡_ {A = ℕ} 0 1 = cc in absurd (omega arith)
 
+pub unless : {A E : Type 0} (t : Bool) (f : E) (r : Result A E) (y : A) → cond t (Err f) r ≡ Ok y → (t ≡ false) × (r ≡ Ok y)
+unless true f r y e = let z : _≡_ {A = ℕ} 0 1 = cc in absurd (omega arith)
+unless false f r y e = (refl, e)
+
 pub ok-parts : {A E : Type 0} (a b : A) (p q : ℕ) → _≡_ {A = Result (A × ℕ) E} (Ok (a, p)) (Ok (b, q)) → (a ≡ b) × (p ≡ q)
 ok-parts {A} {E} a b p q e = let h : _≡_ {A = A × ℕ} (a, p) (b, q) = cc in (ap (λ (x : A × ℕ). x .0) h, ap (λ (x : A × ℕ). x .1) h)
 

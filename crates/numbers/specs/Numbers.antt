@@ -17,12 +17,12 @@ unfoldable pub groups-at : (more : ℕ) → List ℕ → (start at value unit : 
 groups-at zero bs start at value unit = Err (Malformed start)
 groups-at (suc more) bs start at value unit =
     cond (ltb at (length bs))
-      (cond (ltb (getD bs at 0) 128)
-        (cond (eqb (getD bs at 0) 0 && ltb start at)
-          (Err (Malformed start))
-          (Ok (value + unit * getD bs at 0, at + 1)))
-        (groups-at more bs start (at + 1) (value + unit * (getD bs at 0 - 128)) (unit * 128)))
-      (Err (Ended start))
+    (cond (ltb (getD bs at 0) 128)
+    (cond (eqb (getD bs at 0) 0 && ltb start at)
+    (Err (Malformed start))
+    (Ok (value + unit * getD bs at 0, at + 1)))
+    (groups-at more bs start (at + 1) (value + unit * (getD bs at 0 - 128)) (unit * 128)))
+    (Err (Ended start))
 
 -- the number that begins at a byte, and the byte after it
 abbrev pub number-at : List ℕ → ℕ → Result (ℕ × ℕ) NumberFault

@@ -1,7 +1,6 @@
 // Why a number cannot be read.
 ghost use mathlib.Core.Path.{_≡_};
 ghost use Rattle.numbers.specs.Reports.{number-report};
-
 use crate::report::Layer;
 use crate::report::Report;
 use basin::refusal::Refusal;
@@ -21,8 +20,16 @@ impl NumberFault {
         ensures { λ r. ⌜ r ≡ number-report self ⌝ }
     {
         match self {
-            NumberFault::Ended(byte) => Report { refusal: Refusal::FileEnded, byte, layer: Layer::Numbers },
-            NumberFault::Malformed(byte) => Report { refusal: Refusal::NumberForm, byte, layer: Layer::Numbers },
+            NumberFault::Ended(byte) => Report {
+                refusal: Refusal::FileEnded,
+                byte,
+                layer: Layer::Numbers,
+            },
+            NumberFault::Malformed(byte) => Report {
+                refusal: Refusal::NumberForm,
+                byte,
+                layer: Layer::Numbers,
+            },
         }
     }
 }

@@ -2,7 +2,6 @@
 ghost use mathlib.Core.Path.{_≡_};
 ghost use Rattle.numbers.specs.Numbers.{number-at, signed, signed-at};
 ghost use Rattle.numbers.specs.Laws.{Written-is-read, Read-was-written, Signed-is-coded};
-
 use crate::fault::NumberFault;
 
 /// The most groups that a number has.
@@ -57,5 +56,30 @@ pub fn numbers_have_one_form()
     ensures written { λ _. ⌜ Written-is-read ⌝ }
     ensures read { λ _. ⌜ Read-was-written ⌝ }
     ensures signed { λ _. ⌜ Signed-is-coded ⌝ }
-{
+{}
+
+#[cfg(test)]
+mod tests {
+    use super::*;
+    use crate::fault::NumberFaultPartialEq;
+    use std::test::*;
+
+    // Whether the bytes begin with this number and hold nothing else.
+    fn is_number(bytes: &[u8], value: u64) -> bool {
+        match read_number(bytes, 0) {
+            Ok((read, end)) => read == value && end == bytes.len(),
+            Err(_) => false,
+        }
+    }
+
+    #[test]
+    fn numbers_are_read_in_one_form() -> Result<(), Fail> {
+        check(is_number(&[0xAC, 0x02], 300)).note("300")?;
+        check(is_number(&[255, 255, 255, 255, 255, 127], 4_398_046_511_103)).note("the largest")?;
+        check(read_number(&[255; 7], 0).err() == Some(NumberFault::Malformed(0))).note("too long")?;
+        check(read_number(&[0x80, 0], 0).err() == Some(NumberFault::Malformed(0))).note(
+            "not shortest",
+        )?;
+        check(read_signed(&[5], 0).ok() == Some((-3, 1))).note("minus three")
+    }
 }

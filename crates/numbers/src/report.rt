@@ -1,7 +1,6 @@
 // What is said of a refused file.
 ghost use mathlib.Core.Path.{_≡_};
 ghost use Rattle.numbers.specs.Layers.{layer-number};
-
 use basin::refusal::Refusal;
 use basin::refusal::RefusalDebug;
 use basin::refusal::RefusalPartialEq;

@@ -37,7 +37,7 @@ cut-by b h x y n p valid en ep ex ey deep =
 
 pub lines-cut : (v : View) (h x y s : ℕ) → s ≡ 2 ^ (h - 1) → Cut v h x y
     → lines-at v h x y
-      ≡ lines-at v (h - 1) x y ++ (lines-at v (h - 1) (x + s) y ++ (lines-at v (h - 1) x (y + s) ++ lines-at v (h - 1) (x + s) (y + s)))
+    ≡ lines-at v (h - 1) x y ++ (lines-at v (h - 1) (x + s) y ++ (lines-at v (h - 1) x (y + s) ++ lines-at v (h - 1) (x + s) (y + s)))
 unfolding lines-at
 lines-cut v zero x y s e c = absurd (omega (arith, c .high))
 lines-cut v (suc h) x y s e c = let k : suc h - 1 ≡ h = omega arith in rw (lt-ltb (v .L - suc h) (v .level x y) (c .deeper), e, k) refl

@@ -3,7 +3,6 @@ ghost use mathlib.Core.Path.{_≡_};
 ghost use Prim.Native.Nat.{_<_};
 ghost use Rattle.basin.specs.Basins.{heading, side, basin-of, view, Valid-basin};
 ghost use Rattle.sheet.specs.Lines.{line};
-
 use basin::size::place;
 use basin::size::side;
 use kaftanore::Head;
@@ -25,7 +24,15 @@ pub struct Line {
 
 pub impl fmt::Display for Line as LineDisplay {
     fn fmt<W: fmt::Write>(&self, f: &mut fmt::Formatter<W>) -> fmt::Result {
-        let Line { x, y, side, surface, water, east, north } = *self;
+        let Line {
+            x,
+            y,
+            side,
+            surface,
+            water,
+            east,
+            north,
+        } = *self;
         write!(f, "{x} {y} {side} {surface} {water} {east} {north}")
     }
 }
@@ -41,5 +48,13 @@ pub fn line_at(head: Head, levels: &[u8], beds: &[u16], leaves: &[Leaf], x: usiz
     let side = side(head.levels - levels[here]);
     let surface = surface_at(head, levels, beds, leaves, x, y);
     let Leaf { water, east, north } = leaves[here];
-    Line { x, y, side, surface, water, east, north }
+    Line {
+        x,
+        y,
+        side,
+        surface,
+        water,
+        east,
+        north,
+    }
 }

@@ -1,5 +1,6 @@
 // The sheet of a basin file: its head, and a line for each leaf.
 ghost use Rattle.basin.specs.Basins.{basin-of, Valid-basin};
+
 mod line;
 mod list;
 
@@ -17,7 +18,13 @@ use std::io::Read;
 const MOST_BYTES: u64 = 72_000;
 
 /// Prints the head and a line for each leaf.
-fn print_sheet(rt: &LibcRuntime, head: Head, levels: &[u8], beds: &[u16], leaves: &[Leaf]) -> io::Result<()>
+fn print_sheet(
+    rt: &LibcRuntime,
+    head: Head,
+    levels: &[u8],
+    beds: &[u16],
+    leaves: &[Leaf],
+) -> io::Result<()>
     requires { ⌜ Valid-basin (basin-of head (now levels) (now beds) (now leaves)) ⌝ }
 {
     let side = head.side();
@@ -41,7 +48,13 @@ fn print_refusal(rt: &LibcRuntime, fault: FileFault) -> io::Result<()> {
 }
 
 /// Prints the sheet of the file, or its refusal.
-fn show(rt: &LibcRuntime, bytes: &[u8], levels: &mut [u8], beds: &mut [u16], leaves: &mut [Leaf]) -> io::Result<()> {
+fn show(
+    rt: &LibcRuntime,
+    bytes: &[u8],
+    levels: &mut [u8],
+    beds: &mut [u16],
+    leaves: &mut [Leaf],
+) -> io::Result<()> {
     match read(bytes, levels, beds, leaves) {
         Ok(head) => print_sheet(rt, head, levels, beds, leaves),
         Err(fault) => print_refusal(rt, fault),

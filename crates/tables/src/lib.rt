@@ -1,2 +1,3 @@
 // Tests of a basin's tables.
 pub mod balance;
+pub mod validity;

@@ -19,7 +19,7 @@ loop-bed-again c =
     let h : c .loop-bed .bed-index < length (c .loop-bed .beds) = omega arith in
     let s : length (c .args .beds .now) - (c .loop-bed .bed-index + 1) ≡ length (c .args .beds .now) - c .loop-bed .bed-index - 1 = omega arith in
     c .loop-bed .inv ∙ (beds-step _ _ _ _ _ _ (omega arith) (c .in-Continue-height .ensures tt)
-      ∙ rw (s, add-one, take-suc-set (c .loop-bed .beds) (c .loop-bed .bed-index) (c .in-Continue-height .height)) refl)
+    ∙ rw (s, add-one, take-suc-set (c .loop-bed .beds) (c .loop-bed .bed-index) (c .in-Continue-height .height)) refl)
 
 pub returns : need.returns
 returns c =

@@ -19,8 +19,8 @@ returns-then-end-bytes c =
     let tree = c .in-Continue-tree-end .ensures tt in
     let beds = c .in-Continue-end .ensures tt in
     let r = body-charts (heading (c .args .head)) (c .args .bytes .now) (c .args .at) _ _ _ _ _ _ _ _ _
-      (λ i. c .typed .bytes i .fits) (c .side-n .ensures .value) (c .pre .levels) (c .pre .beds) (c .pre .leaves)
-      (tree .next) (tree .levels) (tree .leaves) (beds .next) (beds .beds) (c .if-end-bytes .taken) in
+    (λ i. c .typed .bytes i .fits) (c .side-n .ensures .value) (c .pre .levels) (c .pre .beds) (c .pre .leaves)
+    (tree .next) (tree .levels) (tree .leaves) (beds .next) (beds .beds) (c .if-end-bytes .taken) in
     record { whether = r .0; tables = r .1 }
 
 pub returns-else-end-bytes : need.returns-else-end-bytes

@@ -6,10 +6,11 @@ use lib.ListN.{length}
 use Rattle.std.proofs.shelf.Results.{err-from-errBy}
 use Rattle.std.specs.declared.result.Result.the-variants.{Ok, Err}
 use Rattle.basin.specs.Basins.{heading, tables, basin}
+use Rattle.basin.proofs.Telling.{are-full, not-full, is-misfit, no-misfit}
 use Rattle.nodes.specs.declared.fault.TreeFault.the-variants.{Unbalanced}
 use Rattle.codec.specs.declared.fault.FileFault.the-variants.{Tree}
 use Rattle.codec.specs.Files.{body-at, file-at}
-use Rattle.codec.proofs.Whole.{file-no-head, file-no-body, no-body, file-told, read-refused, read-misfit, read-granted, misfits, all-fit}
+use Rattle.codec.proofs.Whole.{file-no-head, file-no-body, no-body, file-told, read-refused, read-misfit, read-granted}
 use Rattle.codec.proofs.file.read_by.Needs as need
 use Rattle.codec.proofs.file.read_by.Needs.{After-is-balanced, at·returns, at·returns-then-not-is-balanced, at·returns-then-levels-squares}
 
@@ -27,18 +28,18 @@ returns-in-Break-read-body c =
 -- the file, once the balance of what was read is known
 told : (c : After-is-balanced)
     → file-at (c .args .bytes .now)
-      ≡ cond (c .is-balanced .result)
-          (Ok (basin (heading (c .in-Continue-head .head)) (tables (c .read-body .last .levels) (c .read-body .last .beds) (c .read-body .last .leaves))))
-          (Err (Tree (Unbalanced (length (c .args .bytes .now)))))
+    ≡ cond (c .is-balanced .result)
+    (Ok (basin (heading (c .in-Continue-head .head)) (tables (c .read-body .last .levels) (c .read-body .last .beds) (c .read-body .last .leaves))))
+    (Err (Tree (Unbalanced (length (c .args .bytes .now)))))
 told c =
     file-told (c .args .bytes .now) (heading (c .in-Continue-head .head)) (c .in-Continue-head .at) (c .side .result) _ (c .is-balanced .result)
-      (sym (c .in-Continue-head .ensures tt)) (c .in-Continue-read-body .ensures tt .whether) (c .in-Continue-read-body .ensures tt .tables)
-      (c .side .ensures .value) (c .is-balanced .ensures)
+    (sym (c .in-Continue-head .ensures tt)) (c .in-Continue-read-body .ensures tt .whether) (c .in-Continue-read-body .ensures tt .tables)
+    (c .side .ensures .value) (c .is-balanced .ensures)
 
 -- and where it is balanced
 charts : (c : After-is-balanced) → c .is-balanced .result ≡ true
     → file-at (c .args .bytes .now)
-      ≡ Ok (basin (heading (c .in-Continue-head .head)) (tables (c .read-body .last .levels) (c .read-body .last .beds) (c .read-body .last .leaves)))
+    ≡ Ok (basin (heading (c .in-Continue-head .head)) (tables (c .read-body .last .levels) (c .read-body .last .beds) (c .read-body .last .leaves)))
 charts c e = told c ∙ rw e refl
 
 pub returns-then-not-is-balanced : need.returns-then-not-is-balanced
@@ -48,7 +49,7 @@ returns-then-not-is-balanced c =
 pub returns-then-levels-squares : need.returns-then-levels-squares
 returns-then-levels-squares c =
     read-misfit _ _ _ (charts (at·returns-then-levels-squares c .After-is-balanced) (c .if-not-is-balanced .left))
-      (misfits _ _ _ _ _ (c .squares-squares .ensures .value) (c .then-levels-squares .either))
+    (is-misfit _ _ (not-full _ _ _ (c .squares-squares .ensures .value) (c .then-levels-squares .either)))
 
 pub returns : need.returns
 returns c =
@@ -57,4 +58,4 @@ returns c =
     let leaves = c .copy-from-slice-3 .ensures .after in
     (λ i. (Ok (heading (c .in-Continue-head .head)), tables (levels i) (beds i) (leaves i)))
     ∙ read-granted _ _ _ (charts (at·returns c .After-is-balanced) (c .if-not-is-balanced .left))
-        (all-fit _ _ _ _ _ (c .squares-squares .ensures .value) (c .if-levels-squares .left) (c .if-beds-squares .left) (c .if-leaves-squares .left))
+    (no-misfit _ _ (are-full _ _ _ (c .squares-squares .ensures .value) (c .if-levels-squares .left) (c .if-beds-squares .left) (c .if-leaves-squares .left)))

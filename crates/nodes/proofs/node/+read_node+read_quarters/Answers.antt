@@ -28,9 +28,10 @@ read-node-returns-in-Break-leaf t c =
 
 pub read-node-read-quarters-requires : need.read-node-read-quarters-requires
 read-node-read-quarters-requires t c κs =
-    let h = half-side (c .args .spot .height) (c .args .spot .side) (c .if-spot-gt0 .taken) (c .pre .side-is) in
-    (search needs,
-     record { deep = omega arith; few = c .pre .few; side-is = h .0; in-levels = rw (h .1) (c .pre .in-levels); in-leaves = rw (h .1) (c .pre .in-leaves) })
+    let h = half-side (c .args .spot .height) (c .args .spot .side) (c .if-spot-gt0 .taken) (c .pre .side-is) in (
+      search needs,
+      record { deep = omega arith; few = c .pre .few; side-is = h .0; in-levels = rw (h .1) (c .pre .in-levels); in-leaves = rw (h .1) (c .pre .in-leaves) },
+    )
 
 pub read-node-returns-in-Continue-leaf : need.read-node-returns-in-Continue-leaf
 read-node-returns-in-Continue-leaf t c =
@@ -38,7 +39,8 @@ read-node-returns-in-Continue-leaf t c =
     record {
       next = rw e refl;
       levels = drawn-ok _ _ _ _ _ _ e (c .fill-block .ensures ∙ painted-one (level-of (c .args .spot .levels)) _ (c .args .spot .height) _ _ _ _ (c .pre .side-is));
-      leaves = drawn-ok _ _ _ _ _ _ e (c .fill-block-then-mark-eq-LEAF .ensures ∙ painted-one record-of _ (c .args .spot .height) _ _ _ _ (c .pre .side-is)) }
+      leaves = drawn-ok _ _ _ _ _ _ e (c .fill-block-then-mark-eq-LEAF .ensures ∙ painted-one record-of _ (c .args .spot .height) _ _ _ _ (c .pre .side-is));
+    }
 
 pub read-node-returns-then-spot-gt0 : need.read-node-returns-then-spot-gt0
 read-node-returns-then-spot-gt0 t c =
@@ -66,6 +68,7 @@ read-quarters-returns t c =
     record {
       next = place-four node (c .args .at) (c .in-Continue-sw .sw) (c .in-Continue-se .se) (c .in-Continue-nw .nw) _ (sw .next) (se .next) (nw .next) (ne .next);
       levels = drawn-four (level-of (c .args .spot .levels)) (c .args .spot .stride) (c .args .spot .height) (c .args .spot .side) (c .args .spot .corner) node (c .args .at) (c .in-Continue-sw .sw) (c .in-Continue-se .se) (c .in-Continue-nw .nw)
-        _ _ _ _ _ (c .pre .side-is) (sw .next) (se .next) (nw .next) (sw .levels) (se .levels) (nw .levels) (ne .levels);
+          _ _ _ _ _ (c .pre .side-is) (sw .next) (se .next) (nw .next) (sw .levels) (se .levels) (nw .levels) (ne .levels);
       leaves = drawn-four record-of (c .args .spot .stride) (c .args .spot .height) (c .args .spot .side) (c .args .spot .corner) node (c .args .at) (c .in-Continue-sw .sw) (c .in-Continue-se .se) (c .in-Continue-nw .nw)
-        _ _ _ _ _ (c .pre .side-is) (sw .next) (se .next) (nw .next) (sw .leaves) (se .leaves) (nw .leaves) (ne .leaves) }
+          _ _ _ _ _ (c .pre .side-is) (sw .next) (se .next) (nw .next) (sw .leaves) (se .leaves) (nw .leaves) (ne .leaves);
+    }

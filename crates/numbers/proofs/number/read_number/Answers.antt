@@ -36,11 +36,12 @@ mul-unit c = omega (arith, light (c .loop-k .k) (omega arith))
 
 pub loop-k-again : need.loop-k-again
 loop-k-again c =
-    let e : 6 - (c .loop-k .k + 1) ≡ (6 - c .loop-k .k) - 1 = omega arith in
-    (c .loop-k .inv .0 ∙ rw e (more (6 - c .loop-k .k) _ _ _ _ _ (omega arith) (omega arith) (omega arith)),
-     kept-below _ _ _ (c .loop-k .inv .1) (omega (arith, c .typed .bytes (c .loop-k .here))),
-     rw (add-one, pow-suc) (ap (λ n. n * 128) (c .loop-k .inv .2)),
-     omega arith)
+    let e : 6 - (c .loop-k .k + 1) ≡ (6 - c .loop-k .k) - 1 = omega arith in (
+      c .loop-k .inv .0 ∙ rw e (more (6 - c .loop-k .k) _ _ _ _ _ (omega arith) (omega arith) (omega arith)),
+      kept-below _ _ _ (c .loop-k .inv .1) (omega (arith, c .typed .bytes (c .loop-k .here))),
+      rw (add-one, pow-suc) (ap (λ n. n * 128) (c .loop-k .inv .2)),
+      omega arith,
+    )
 
 pub returns : need.returns
 unfolding groups-at

@@ -1,0 +1,3 @@
+-- The lemmas that the proofs use.
+pub mod Beds
+pub mod Dry
