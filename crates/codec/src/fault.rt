@@ -31,21 +31,9 @@ impl FileFault {
     {
         match self {
             FileFault::Tree(fault) => fault.report(),
-            FileFault::Range(byte) => Report {
-                refusal: Refusal::FileRange,
-                byte,
-                layer: Layer::File,
-            },
-            FileFault::Trailing(byte) => Report {
-                refusal: Refusal::TrailingBytes,
-                byte,
-                layer: Layer::File,
-            },
-            FileFault::TableLength(byte) => Report {
-                refusal: Refusal::TableLength,
-                byte,
-                layer: Layer::File,
-            },
+            FileFault::Range(byte) => Report::new(Refusal::FileRange, byte, Layer::File),
+            FileFault::Trailing(byte) => Report::new(Refusal::TrailingBytes, byte, Layer::File),
+            FileFault::TableLength(byte) => Report::new(Refusal::TableLength, byte, Layer::File),
         }
     }
 }

@@ -27,16 +27,8 @@ impl TreeFault {
     {
         match self {
             TreeFault::Number(fault) => fault.report(),
-            TreeFault::Range(byte) => Report {
-                refusal: Refusal::FileRange,
-                byte,
-                layer: Layer::Tree,
-            },
-            TreeFault::Unbalanced(byte) => Report {
-                refusal: Refusal::NotABasin,
-                byte,
-                layer: Layer::Tree,
-            },
+            TreeFault::Range(byte) => Report::new(Refusal::FileRange, byte, Layer::Tree),
+            TreeFault::Unbalanced(byte) => Report::new(Refusal::NotABasin, byte, Layer::Tree),
         }
     }
 }

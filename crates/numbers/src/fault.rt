@@ -20,16 +20,8 @@ impl NumberFault {
         ensures { λ r. ⌜ r ≡ number-report self ⌝ }
     {
         match self {
-            NumberFault::Ended(byte) => Report {
-                refusal: Refusal::FileEnded,
-                byte,
-                layer: Layer::Numbers,
-            },
-            NumberFault::Malformed(byte) => Report {
-                refusal: Refusal::NumberForm,
-                byte,
-                layer: Layer::Numbers,
-            },
+            NumberFault::Ended(byte) => Report::new(Refusal::FileEnded, byte, Layer::Numbers),
+            NumberFault::Malformed(byte) => Report::new(Refusal::NumberForm, byte, Layer::Numbers),
         }
     }
 }

@@ -1,6 +1,6 @@
 // What is said of a refused file.
 ghost use mathlib.Core.Path.{_≡_};
-ghost use Rattle.numbers.specs.Layers.{layer-number};
+ghost use Rattle.numbers.specs.Layers.{layer-number, report};
 use basin::refusal::Refusal;
 use basin::refusal::RefusalDebug;
 use basin::refusal::RefusalPartialEq;
@@ -28,4 +28,16 @@ pub struct Report {
     pub refusal: Refusal,
     pub byte: usize,
     pub layer: Layer,
+}
+
+impl Report {
+    pub fn new(refusal: Refusal, byte: usize, layer: Layer) -> Report
+        ensures { λ r. ⌜ r ≡ report refusal byte layer ⌝ }
+    {
+        Report {
+            refusal,
+            byte,
+            layer,
+        }
+    }
 }
