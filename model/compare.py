@@ -1,7 +1,8 @@
-"""Holds the program `sheet` to the model in basin.py.
+"""Holds the programs to the model: `sheet` to basin.py, `replay` to replay.py.
 
-    python3 model/compare.py PATH_TO_SHEET [--seed N] [--count N]
-    python3 model/compare.py --self-test
+    python3 model/compare.py sheet PATH [--seed N] [--count N]
+    python3 model/compare.py replay PATH [--seed N] [--count N]
+    python3 model/compare.py self-test
 """
 
 from __future__ import annotations
@@ -12,15 +13,18 @@ import sys
 import tempfile
 from collections import Counter
 from concurrent.futures import ThreadPoolExecutor
-from dataclasses import dataclass
+from dataclasses import dataclass, replace
 from itertools import islice
 from pathlib import Path
 from random import Random
 
 import files
+import logs
+import replay
 from basin import LOOKED_AT, MOST_DEPTH, Basin, Head, Leaf, encode, read, sheet, unsigned, write
 
 OUTCOMES = ("ok", "refused 12/1", "refused 13/1", "refused 14/2", "refused 14/3", "refused 15/3", "refused 2/2")
+REPLAY_OUTCOMES = ("ok", "stopped", "refused 3", "refused 4", "refused 12", "refused 14")
 PATIENCE = 60  # seconds
 
 
@@ -53,8 +57,7 @@ def outcome(printed: str) -> str:
     return f"refused {number}/{layer}"
 
 
-def report(case: files.Case, seed: int, wanted: Answer, given: Answer) -> None:
-    kind, data = case
+def report(kind: str, data: bytes, seed: int, wanted: Answer, given: Answer) -> None:
     kept = Path(tempfile.mkdtemp(prefix="basin-")) / "input"
     kept.write_bytes(data)
     print(f"differs: {kind} (seed {seed}, {len(data)} bytes, kept in {kept})")
@@ -66,6 +69,42 @@ def report(case: files.Case, seed: int, wanted: Answer, given: Answer) -> None:
             return
 
 
+def replay_outcomes(printed: list[str]) -> Counter[str]:
+    """The refusals' numbers, and how often a line was granted."""
+    return Counter(" ".join(line.split()[:2]) if line.startswith("refused") else "ok" for line in printed)
+
+
+def beginning_of_message(log: str, stopped: int | None) -> bytes:
+    if stopped is not None:
+        return f"replay: line {stopped}: ".encode()
+    return b"" if log else b"replay: the log is empty"
+
+
+def compare_logs(program: Path, seed: int, count: int) -> bool:
+    """Each log on a folder of its own. Of a message only its beginning is compared."""
+    met: Counter[str] = Counter()
+    for kind, log in islice(logs.logs(seed), count):
+        with tempfile.TemporaryDirectory(prefix="replay-") as folder:
+            text = log.replace("DIR", folder)
+            printed, stopped = replay.replay(text, folder)
+            given = run(program, text.encode())
+        message = beginning_of_message(log, stopped)
+        wanted = Answer("".join(f"{line}\n" for line in printed).encode(), message, 0 if stopped is None else 1)
+        if message:
+            given = replace(given, err=given.err[: len(message)])
+        if given != wanted:
+            report(kind, text.encode(), seed, wanted, given)
+            return False
+        met += replay_outcomes(printed)
+        met["stopped"] += stopped is not None
+    print("replay: " + ", ".join(f"{key} {met[key]}" for key in sorted(met)))
+    if never := [key for key in REPLAY_OUTCOMES if key not in met]:
+        print(f"model: never met in a log: {', '.join(never)} (seed {seed}, count {count})")
+        return False
+    print(f"model: {count} logs agree")
+    return True
+
+
 def compare(program: Path, seed: int, count: int) -> bool:
     made = list(islice(files.cases(seed), count))
     met: dict[str, Counter[str]] = {}
@@ -75,7 +114,7 @@ def compare(program: Path, seed: int, count: int) -> bool:
             printed = sheet(case[1])
             if given != (wanted := Answer(printed.encode())):
                 pool.shutdown(wait=False, cancel_futures=True)
-                report(case, seed, wanted, given)
+                report(*case, seed, wanted, given)
                 return False
             met.setdefault(case[0].split(":")[0], Counter())[outcome(printed)] += 1
     total = sum(met.values(), Counter())
@@ -140,18 +179,19 @@ def self_test() -> None:
 
 
 def main() -> int:
-    parser = argparse.ArgumentParser(description="Holds the program `sheet` to the model.")
-    parser.add_argument("program", type=Path, nargs="?", metavar="PATH_TO_SHEET")
+    parser = argparse.ArgumentParser(description="Holds the programs to the model.")
+    parser.add_argument("what", choices=("sheet", "replay", "self-test"))
+    parser.add_argument("program", type=Path, nargs="?", metavar="PATH", help="of the program to compare")
     parser.add_argument("--seed", type=int, default=1)
-    parser.add_argument("--count", type=int, default=4000, help="files to make; too few miss some outcomes")
-    parser.add_argument("--self-test", action="store_true", help="try the model alone, without a program")
+    parser.add_argument("--count", type=int, help="inputs to make; too few miss some outcomes")
     given = parser.parse_args()
-    if given.self_test:
+    if given.what == "self-test":
         self_test()
         return 0
     if given.program is None or not given.program.is_file():
-        parser.error("PATH_TO_SHEET is no file")
-    return 0 if compare(given.program.resolve(), given.seed, given.count) else 1
+        parser.error("PATH is no file")
+    by, count = (compare, 4_000) if given.what == "sheet" else (compare_logs, 1_500)
+    return 0 if by(given.program.resolve(), given.seed, given.count or count) else 1
 
 
 if __name__ == "__main__":

@@ -4,3 +4,4 @@ pub mod Sums
 pub mod Tabled
 pub mod Found
 pub mod Telling
+pub mod Flat

@@ -1,6 +1,6 @@
 -- The tests tell the valid basins.
 use Prim.Native.Nat.{ℕ, _+_, _*_, _/_, _<_, _≤_}
-use mathlib.Core.Bool.{true, false, cond, not, _||_}
+use mathlib.Core.Bool.{Bool, true, false, cond, not, _||_}
 use mathlib.Core.List.{List}
 use mathlib.Core.Logic.{_⊎_, inl, inr}
 use mathlib.Core.Path.{_≡_, refl, sym, ap, _∙_}
@@ -8,8 +8,10 @@ use native.Mathlib.Omega.{arith}
 use lib.Dec.{eqb, ltb}
 use lib.ListN.{length}
 use Rattle.std.proofs.shelf.Tests.{cases-bool, and-left, and-right, or-from, le-ltb, ltb-false, eqb-true, eq-eqb}
+use Rattle.std.specs.declared.result.Result.{Result}
 use Rattle.std.specs.declared.result.Result.the-variants.{Ok, Err}
 use Rattle.basin.specs.declared.head.Head.{Head}
+use Rattle.basin.specs.declared.refusal.Refusal.{Refusal}
 use Rattle.basin.specs.declared.refusal.Refusal.the-variants.{TableLength, NotABasin}
 use Rattle.basin.specs.Basins.{Heading, heading, Tables, Basin, side, view, Valid, Heads, Full, Valid-basin}
 use Rattle.basin.specs.Flaws.{same-record, bad-record, flaw-at, flaw-between, flawed, no-head, unfit, misfit, no-basin, validity, Tells-basins}
@@ -198,3 +200,13 @@ full-validity b f = rw (no-misfit (b .head) (b .tables) f) refl
 pub valid-told : (b : Basin) → Valid-basin b → validity b ≡ Ok tt
 unfolding validity
 valid-told b v = let t = tells-basins .1 b v in rw (t .0, t .1) refl
+
+pub told-is-valid : (b : Basin) → validity b ≡ Ok tt → Valid-basin b
+unfolding validity
+told-is-valid b h = tells-basins .0 b (both (misfit (b .head) (b .tables)) (no-basin b) h)
+  where
+    both : (short flaw : Bool) → _≡_ {A = Result (Unit {0}) Refusal} (cond short (Err TableLength) (cond flaw (Err NotABasin) (Ok tt))) (Ok tt)
+        → (short ≡ false) × (flaw ≡ false)
+    both true flaw e = let z : _≡_ {A = ℕ} 0 1 = cc in absurd (omega arith)
+    both false true e = let z : _≡_ {A = ℕ} 0 1 = cc in absurd (omega arith)
+    both false false e = (refl, refl)

@@ -7,3 +7,4 @@ pub mod Views
 pub mod Squares
 pub mod Basins
 pub mod Flaws
+pub mod Totals

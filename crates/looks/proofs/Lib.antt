@@ -1,1 +1,3 @@
 pub mod Beds
+pub mod Counted
+pub mod Answered

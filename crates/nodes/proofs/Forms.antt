@@ -27,7 +27,7 @@ use Rattle.nodes.specs.Written.{leaf-bytes, tree-bytes, Tree-is-read, Tree-was
 use Rattle.nodes.proofs.Ways.{node-is, node-leaf, node-fork, fork-at}
 
 -- ---- written, then read
-coded-small : (z : ℤ) → coded z ≤ 2 * natAbs z
+pub coded-small : (z : ℤ) → coded z ≤ 2 * natAbs z
 coded-small (pos q) = omega arith
 coded-small (negsuc q) = omega arith
 

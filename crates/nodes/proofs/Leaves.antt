@@ -14,19 +14,19 @@ use Rattle.nodes.specs.Trees.{Tree, one, four, side, Found, found, Sound}
 
 -- ---- the quarter that a square lies in
 module _ (m : ℕ) (a b c d : Tree) (x y : ℕ) where
-  found-sw : x < side m → y < side m → found (suc m) (four a b c d) x y ≡ found m a x y
+  pub found-sw : x < side m → y < side m → found (suc m) (four a b c d) x y ≡ found m a x y
   unfolding found
   found-sw e n = rw (lt-ltb y (side m) n, lt-ltb x (side m) e) refl
 
-  found-se : side m ≤ x → y < side m → found (suc m) (four a b c d) x y ≡ found m b (x - side m) y
+  pub found-se : side m ≤ x → y < side m → found (suc m) (four a b c d) x y ≡ found m b (x - side m) y
   unfolding found
   found-se e n = rw (lt-ltb y (side m) n, le-ltb x (side m) e) refl
 
-  found-nw : x < side m → side m ≤ y → found (suc m) (four a b c d) x y ≡ found m c x (y - side m)
+  pub found-nw : x < side m → side m ≤ y → found (suc m) (four a b c d) x y ≡ found m c x (y - side m)
   unfolding found
   found-nw e n = rw (le-ltb y (side m) n, lt-ltb x (side m) e) refl
 
-  found-ne : side m ≤ x → side m ≤ y → found (suc m) (four a b c d) x y ≡ found m d (x - side m) (y - side m)
+  pub found-ne : side m ≤ x → side m ≤ y → found (suc m) (four a b c d) x y ≡ found m d (x - side m) (y - side m)
   unfolding found
   found-ne e n = rw (le-ltb y (side m) n, le-ltb x (side m) e) refl
 
