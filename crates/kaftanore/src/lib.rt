@@ -31,15 +31,19 @@ mod tests {
     use basin::leaf::LeafPartialEq;
     use std::test::*;
 
-    // Whether a file is refused with these three numbers.
+    // Whether a file is refused with these three numbers, and the tables are as they were.
     fn is_refused(bytes: &[u8], number: u8, byte: usize, layer: u8) -> bool {
-        match read(bytes, &mut [9], &mut [9], &mut [Leaf::DRY]) {
+        let mut levels = [9];
+        let mut beds = [9];
+        let mut leaves = [Leaf::DRY];
+        match read(bytes, &mut levels, &mut beds, &mut leaves) {
             Ok(_) => false,
             Err(fault) => {
                 let report = fault.report();
-                report.refusal.number() == number
+                let told = report.refusal.number() == number
                     && report.byte == byte
-                    && report.layer.number() == layer
+                    && report.layer.number() == layer;
+                told && levels == [9] && beds == [9] && leaves == [Leaf::DRY]
             }
         }
     }

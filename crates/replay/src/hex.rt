@@ -1,7 +1,6 @@
 // Bytes as hexadecimal digits.
 ghost use Prim.Native.Nat.{_<_};
 ghost use Rattle.std.specs.Options.{Cases as BySome};
-
 use crate::session::Stop;
 use crate::session::StopFromMemory;
 use crate::session::StopFromRefused;

@@ -82,7 +82,11 @@ impl Tables {
         let levels = vec![in heap; 0u8; squares]?;
         let beds = vec![in heap; 0u16; squares]?;
         let leaves = vec![in heap; Leaf::DRY; squares]?;
-        Ok(Tables { levels, beds, leaves })
+        Ok(Tables {
+            levels,
+            beds,
+            leaves,
+        })
     }
 }
 
@@ -114,8 +118,17 @@ fn granted(heap: Global) -> Result<String, Stop> {
 
 impl Session {
     pub fn new(heap: Global) -> Session {
-        let tables = Tables { levels: Vec::new(heap), beds: Vec::new(heap), leaves: Vec::new(heap) };
-        Session { draft: None, plan: Vec::new(heap), head: None, tables }
+        let tables = Tables {
+            levels: Vec::new(heap),
+            beds: Vec::new(heap),
+            leaves: Vec::new(heap),
+        };
+        Session {
+            draft: None,
+            plan: Vec::new(heap),
+            head: None,
+            tables,
+        }
     }
 
     /// Performs a call, and says what it answered.
@@ -138,7 +151,11 @@ impl Session {
     }
 
     fn open(&mut self, heap: Global, levels: u32, width: u32) -> Result<String, Stop> {
-        let squares = if levels <= 6 { 1usize << (2 * levels) } else { 0 };
+        let squares = if levels <= 6 {
+            1usize << (2 * levels)
+        } else {
+            0
+        };
         let mut plan = vec![in heap; 0u16; squares]?;
         match open(levels, width, &mut plan) {
             Ok(draft) => {
@@ -183,7 +200,12 @@ impl Session {
 
     fn read(&mut self, heap: Global, bytes: &[u8]) -> Result<String, Stop> {
         let mut tables = Tables::new(heap, table_length(bytes))?;
-        match read(bytes, &mut tables.levels, &mut tables.beds, &mut tables.leaves) {
+        match read(
+            bytes,
+            &mut tables.levels,
+            &mut tables.beds,
+            &mut tables.leaves,
+        ) {
             Ok(head) => {
                 self.head = Some(head);
                 self.tables = tables;
@@ -200,7 +222,13 @@ impl Session {
         };
         let mut bytes = vec![in heap; 0u8; MOST_BYTES]?;
         let tables = &self.tables;
-        match write(head, &tables.levels, &tables.beds, &tables.leaves, &mut bytes) {
+        match write(
+            head,
+            &tables.levels,
+            &tables.beds,
+            &tables.leaves,
+            &mut bytes,
+        ) {
             Ok(count) => {
                 bytes.truncate(count);
                 Ok(Ok(bytes))
