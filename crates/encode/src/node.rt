@@ -37,11 +37,13 @@ pub fn node_length(
 {
     let here = place(head.side(), x, y);
     if levels[here] > head.levels - height {
-        let half = side(height - 1);
-        let sw = node_length(head, levels, beds, leaves, x, y, height - 1);
-        let se = node_length(head, levels, beds, leaves, x + half, y, height - 1);
-        let nw = node_length(head, levels, beds, leaves, x, y + half, height - 1);
-        let ne = node_length(head, levels, beds, leaves, x + half, y + half, height - 1);
+        let below = height - 1;
+        let half = side(below);
+        let (east, north) = (x + half, y + half);
+        let sw = node_length(head, levels, beds, leaves, x, y, below);
+        let se = node_length(head, levels, beds, leaves, east, y, below);
+        let nw = node_length(head, levels, beds, leaves, x, north, below);
+        let ne = node_length(head, levels, beds, leaves, east, north, below);
         1 + sw + se + nw + ne
     } else {
         1 + leaf_length(leaves[here])
@@ -68,42 +70,14 @@ pub fn put_node(
 {
     let here = place(head.side(), x, y);
     if levels[here] > head.levels - height {
-        let half = side(height - 1);
+        let below = height - 1;
+        let half = side(below);
+        let (east, north) = (x + half, y + half);
         let sw_at = put_number(out, at, CUT);
-        let se_at = put_node(out, sw_at, head, levels, beds, leaves, x, y, height - 1);
-        let nw_at = put_node(
-            out,
-            se_at,
-            head,
-            levels,
-            beds,
-            leaves,
-            x + half,
-            y,
-            height - 1,
-        );
-        let ne_at = put_node(
-            out,
-            nw_at,
-            head,
-            levels,
-            beds,
-            leaves,
-            x,
-            y + half,
-            height - 1,
-        );
-        put_node(
-            out,
-            ne_at,
-            head,
-            levels,
-            beds,
-            leaves,
-            x + half,
-            y + half,
-            height - 1,
-        )
+        let se_at = put_node(out, sw_at, head, levels, beds, leaves, x, y, below);
+        let nw_at = put_node(out, se_at, head, levels, beds, leaves, east, y, below);
+        let ne_at = put_node(out, nw_at, head, levels, beds, leaves, x, north, below);
+        put_node(out, ne_at, head, levels, beds, leaves, east, north, below)
     } else {
         let record_at = put_number(out, at, LEAF);
         put_leaf(out, record_at, leaves[here])
