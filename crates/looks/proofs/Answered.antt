@@ -1,10 +1,8 @@
 -- What the calls answer, case by case.
 use Prim.Native.Nat.{ℕ, _+_, _*_, _<_, _≤_}
-use mathlib.Core.Bool.{true, false}
-use mathlib.Core.Logic.{_⊎_, inl, inr}
+use mathlib.Core.Logic.{_⊎_}
 use mathlib.Core.Path.{_≡_, refl, sym, _∙_, ap}
 use native.Mathlib.Omega.{arith}
-use lib.Dec.{leb}
 use lib.IntN.{ℤ}
 use lib.ListN.{getD}
 use Rattle.std.specs.declared.result.Result.the-variants.{Ok, Err}
@@ -18,7 +16,7 @@ use Rattle.basin.specs.Squares.{surface}
 use Rattle.basin.specs.Totals.{total}
 use Rattle.basin.specs.Views.{size}
 use Rattle.looks.specs.declared.look.Look.{Look}
-use Rattle.looks.specs.Looks.{after, seen, look-of, total-of}
+use Rattle.looks.specs.Looks.{seen, look-of, total-of}
 
 -- no valid basin
 pub look-refused : (b : Basin) (x y : ℕ) (e : Refusal) → Err e ≡ validity b → Err e ≡ look-of b x y

@@ -1,4 +1,4 @@
-// What a look shows.
+// The answer of a look.
 
 /// What a look shows of the leaf at a square: its level, its water V, its surface number W, and its discharges X eastward and Y northward.
 #[derive(Clone, Copy, PartialEq, Eq, Debug)]
