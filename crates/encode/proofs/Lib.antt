@@ -1,3 +1,4 @@
+-- The lemmas that the proofs of the functions cite.
 pub mod Groups
 pub mod Puts
 pub mod Ranges

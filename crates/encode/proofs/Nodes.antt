@@ -37,7 +37,7 @@ unfolding tree-of
 tree-zero v x y = refl
 
 -- ---- its bytes
-pub bytes-cut : (v : View) (h x y s : ℕ) → 0 < h → s ≡ 2 ^ (h - 1) → v .L - h < v .level x y
+bytes-cut : (v : View) (h x y s : ℕ) → 0 < h → s ≡ 2 ^ (h - 1) → v .L - h < v .level x y
     → node-bytes v h x y
     ≡ number 1 ++ (node-bytes v (h - 1) x y ++ (node-bytes v (h - 1) (x + s) y ++ (node-bytes v (h - 1) x (y + s) ++ node-bytes v (h - 1) (x + s) (y + s))))
 unfolding tree-bytes
@@ -46,7 +46,7 @@ bytes-cut v (suc h) x y s p e l =
     let k : suc h - 1 ≡ h = omega arith in
     rw (e, k) (ap tree-bytes (tree-cut v h x y l))
 
-pub bytes-leaf : (v : View) (h x y : ℕ) → v .level x y ≤ v .L - h → node-bytes v h x y ≡ number 0 ++ leaf-bytes (v .leaf x y)
+bytes-leaf : (v : View) (h x y : ℕ) → v .level x y ≤ v .L - h → node-bytes v h x y ≡ number 0 ++ leaf-bytes (v .leaf x y)
 unfolding tree-bytes
 bytes-leaf v h x y l = ap tree-bytes (tree-leaf v h x y l)
 
@@ -109,13 +109,13 @@ pub record Here (b : Basin) (height x y n p : ℕ) : Type 0 where
   pub place-is : p ≡ y * n + x
 
 module _ {b : Basin} {height x y n p : ℕ} (here : Here b height x y n p) where
-  pub place-of : p ≡ y * side (b .head) + x
+  place-of : p ≡ y * side (b .head) + x
   place-of = here .place-is ∙ ap (λ k. y * k + x) (here .side-is)
 
-  pub level-here : getD (b .tables .levels) p 0 ≡ view b .level x y
+  level-here : getD (b .tables .levels) p 0 ≡ view b .level x y
   level-here = ap (λ k. getD (b .tables .levels) k 0) place-of
 
-  pub leaf-here : getD (b .tables .leaves) p dry ≡ view b .leaf x y
+  leaf-here : getD (b .tables .leaves) p dry ≡ view b .leaf x y
   leaf-here = ap (λ k. getD (b .tables .leaves) k dry) place-of
 
   pub small-here : In-range 4096 (getD (b .tables .leaves) p dry)
@@ -128,7 +128,7 @@ module _ {b : Basin} {height x y n p : ℕ} (here : Here b height x y n p) where
 
   -- where it is cut
   module _ {s : ℕ} (e : s ≡ 2 ^ (height - 1)) (deep : b .head .L - height < getD (b .tables .levels) p 0) where
-    pub deeper : view b .L - height < view b .level x y
+    deeper : view b .L - height < view b .level x y
     deeper = rw level-here at deep
 
     pub high : 0 < height

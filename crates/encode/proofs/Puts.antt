@@ -18,7 +18,7 @@ pub record Put (xs : List ℕ) (o : List ℕ) (at : ℕ) (o′ : List ℕ) (at�
   pub place : at′ ≡ at + length xs
   pub bytes : o′ ≡ sets o at xs
 
-pub put : {xs : List ℕ} {o : List ℕ} {at : ℕ} {o′ : List ℕ} {at′ : ℕ} → at′ ≡ at + length xs → o′ ≡ sets o at xs → Put xs o at o′ at′
+pub put : {xs o o′ : List ℕ} {at at′ : ℕ} → at′ ≡ at + length xs → o′ ≡ sets o at xs → Put xs o at o′ at′
 put e f = record { place = e; bytes = f }
 
 pub then : {xs ys o p q : List ℕ} {a b c : ℕ} → Put xs o a p b → Put ys p b q c → Put (xs ++ ys) o a q c

@@ -3,7 +3,6 @@ use native.Mathlib.Omega.{arith}
 use Prim.Native.Nat.{ℕ}
 use lib.Dec.{lit<}
 use Rattle.basin.specs.Basins.{basin-of}
-use Rattle.numbers.specs.Numbers.{number}
 use Rattle.encode.proofs.Nodes.{Here, high, sw, se, nw, ne, one-group, small-here, cut-bytes, cut-length, leaf-node, leaf-node-length}
 use Rattle.encode.proofs.Puts.{put, then}
 use Rattle.encode.proofs.node.+put_node.Needs as need
@@ -74,8 +73,7 @@ returns-then-levels-here t c =
     let se = put (c .put-node-nw-at .ensures .place) (c .put-node-nw-at .ensures .bytes) in
     let nw = put (c .put-node-ne-at .ensures .place) (c .put-node-ne-at .ensures .bytes) in
     let ne = put (c .put-node .ensures .place) (c .put-node .ensures .bytes) in
-    let all =
-    then mark (then sw (then se (then nw ne))) in
+    let all = then mark (then sw (then se (then nw ne))) in
     rw bytes (record { place = all .place; bytes = all .bytes })
 
 pub returns-else-levels-here : need.returns-else-levels-here
