@@ -1,0 +1,12 @@
+pub mod Overs
+pub mod Finish
+pub mod Roots
+pub mod Rules
+pub mod Trees
+pub mod Step
+pub mod Homes
+pub mod Changes
+pub mod Calls
+pub mod Turns
+pub mod Runs
+pub mod Refusing
