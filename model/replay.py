@@ -1,4 +1,7 @@
-"""A model of the calls and of the program `replay`, written from docs/BASIN.md alone."""
+"""A model of the calls and of the program `replay`, after docs/BASIN.md.
+
+Unlike basin.py it is not independent: whoever wrote it had written the program too, so both may misread the page alike.
+"""
 
 from __future__ import annotations
 
