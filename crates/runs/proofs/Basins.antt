@@ -222,8 +222,8 @@ module _ (b : Basin) (right : Valid-basin b) (c : Call) where
   pub call-valid : Valid-basin (perform c b .1)
   call-valid = after-valid (verdict c b) refl
 
-  after-water : (n : Result (Unit {0}) Refusal) → verdict c b ≡ n → total (outcome n c b .1) + drawn c (outcome n c b .0)
-      ≡ total b + poured c (outcome n c b .0)
+  after-water : (n : Result (Unit {0}) Refusal) → verdict c b ≡ n
+      → total (outcome n c b .1) + drawn c (outcome n c b .0) ≡ total b + poured c (outcome n c b .0)
   after-water (Ok t) e =
       omega (
         arith,

@@ -62,8 +62,8 @@ module _ (v : View) (level′ bed′ : ℕ → ℕ → ℕ) (leaf′ : ℕ → �
       wt : (x y : ℕ) → x < size v → y < size v → leaf′ x y .water ≡ water v (fx x y) (fy x y)
       wt x y a b = ap (λ l. l .water) (T .leaves x y a b) ∙ S .ρ-water (v .leaf (fx x y) (fy x y))
 
-      slows : (x y : ℕ) → x < size v → y < size v
-          → (natAbs (leaf′ x y .east) ≤ water v (fx x y) (fy x y) * 10000) × (natAbs (leaf′ x y .north) ≤ water v (fx x y) (fy x y) * 10000)
+      slows : (x y : ℕ) → x < size v → y < size v → (natAbs (leaf′ x y .east) ≤ water v (fx x y) (fy x y) * 10000) ×
+          (natAbs (leaf′ x y .north) ≤ water v (fx x y) (fy x y) * 10000)
       slows x y a b =
           let l = v .leaf (fx x y) (fy x y) in
           let s = S .ρ-slow (l .water * 10000) l (slow-eastward good (fx x y) (fy x y) (S .in-x x y a b) (S .in-y x y a b))

@@ -24,3 +24,4 @@ pub mod StandRuns
 pub mod TurnRuns
 pub mod Joint
 pub mod Refusing
+pub mod Rooted

@@ -56,8 +56,8 @@ not-below m k h e = omega (arith, below-sort m k e)
 pub coarser : (L j k x x′ : ℕ) → j ≤ k → k ≤ L → x / 2 ^ (L - k) ≡ x′ / 2 ^ (L - k) → x / 2 ^ (L - j) ≡ x′ / 2 ^ (L - j)
 coarser L j k x x′ h i e =
     let sum : L - j ≡ L - k + (k - j) = omega arith in
-    let side-of : 2 ^ (L - j) ≡ 2 ^ (L - k) * 2 ^ (k - j) = ap (λ n. 2 ^ n) sum ∙ pow-add 2 (L - k) (k - j) in
-    rw side-of (sym (div-div-eq-div-mul x (2 ^ (L - k)) (2 ^ (k - j))) ∙ ap (λ n. n / 2 ^ (k - j)) e ∙ div-div-eq-div-mul x′ (2 ^ (L - k)) (2 ^ (k - j)))
+    let product : 2 ^ (L - j) ≡ 2 ^ (L - k) * 2 ^ (k - j) = ap (λ n. 2 ^ n) sum ∙ pow-add 2 (L - k) (k - j) in
+    rw product (sym (div-div-eq-div-mul x (2 ^ (L - k)) (2 ^ (k - j))) ∙ ap (λ n. n / 2 ^ (k - j)) e ∙ div-div-eq-div-mul x′ (2 ^ (L - k)) (2 ^ (k - j)))
 
 pub twice : (L k : ℕ) → k < L → 2 ^ (L - k) ≡ 2 ^ (L - suc k) * 2
 twice L k h = let e : L - k ≡ suc (L - suc k) = omega arith in ap (λ n. 2 ^ n) e ∙ pow-suc 2 (L - suc k)
@@ -212,8 +212,8 @@ module _ (v : View) (valid : Quadtree v) where
   offsets South s j h = omega arith
 
   -- a leaf's larger neighbour
-  is-larger : (p : Dir) (c : Block) → Within (v .L) c → low c ≡ c .k → at-edge p c ≡ false → low (beyond p c) < c .k → low (parent (beyond p c))
-      ≡ parent (beyond p c) .k
+  is-larger : (p : Dir) (c : Block) → Within (v .L) c → low c ≡ c .k → at-edge p c ≡ false → low (beyond p c) < c .k
+      → low (parent (beyond p c)) ≡ parent (beyond p c) .k
   unfolding facing
   is-larger p c w h e l =
       let b = within-beyond (v .L) p c w e in

@@ -320,10 +320,10 @@ module _ (v : View) (good : Valid v) (st : Stands v) (x y : ℕ) (a : x < size v
       all-wet : (A B i j : ℕ) → Of-sibling A B i j → 0 < water v (A * side-of v (v .level x y) + i) (B * side-of v (v .level x y) + j)
       all-wet A B i j o = ltb-true 0 _ (same-wet _ _ (o .on-x) (o .on-y) (o .kin) ∙ is-wet (water v x y) w)
 
-      beside : (A B : ℕ) → A / 2 ≡ x / side-of v (pred (v .level x y)) → (A + 1) / 2 ≡ x / side-of v (pred (v .level x y)) → B / 2
-          ≡ y / side-of v (pred (v .level x y)) → height A B ≡ height (A + 1) B
+      level-beside : (A B : ℕ) → A / 2 ≡ x / side-of v (pred (v .level x y)) → (A + 1) / 2 ≡ x / side-of v (pred (v .level x y))
+          → B / 2 ≡ y / side-of v (pred (v .level x y)) → height A B ≡ height (A + 1) B
       unfolding height
-      beside A B e e′ f =
+      level-beside A B e e′ f =
           let k = v .level x y in
           let s = side-of v k in
           let o = of-sibling A B (s - 1) 0 e f (omega (arith, pos-s)) pos-s in
@@ -332,8 +332,8 @@ module _ (v : View) (good : Valid v) (st : Stands v) (x y : ℕ) (a : x < size v
           ∙ st .level (A * s + (s - 1)) (B * s + 0) ((A + 1) * s + 0) (B * s + 0) (o .on-x) (o .on-y) (o′ .on-x) (o′ .on-y)
           (edge-east (A * s + (s - 1)) ((A + 1) * s + 0) (B * s + 0) (omega (arith, pos-s))) (all-wet A B (s - 1) 0 o) (all-wet (A + 1) B 0 0 o′)
 
-      atop : (A B : ℕ) → A / 2 ≡ x / side-of v (pred (v .level x y)) → B / 2 ≡ y / side-of v (pred (v .level x y)) → (B + 1) / 2
-          ≡ y / side-of v (pred (v .level x y)) → height A B ≡ height A (B + 1)
+      atop : (A B : ℕ) → A / 2 ≡ x / side-of v (pred (v .level x y)) → B / 2 ≡ y / side-of v (pred (v .level x y))
+          → (B + 1) / 2 ≡ y / side-of v (pred (v .level x y)) → height A B ≡ height A (B + 1)
       unfolding height
       atop A B e f f′ =
           let k = v .level x y in
@@ -357,11 +357,11 @@ module _ (v : View) (good : Valid v) (st : Stands v) (x y : ℕ) (a : x < size v
               let P = x / side-of v (pred (v .level x y)) in
               elim (cases-eq A (P * 2)) [
                 | inl u ↦ ap (λ n. height n B) u
-                | inr u ↦ let z : A ≡ P * 2 + 1 = omega arith in ap (λ n. height n B) z ∙ sym (beside (P * 2) B (omega arith) (omega arith) f)
+                | inr u ↦ let z : A ≡ P * 2 + 1 = omega arith in ap (λ n. height n B) z ∙ sym (level-beside (P * 2) B (omega arith) (omega arith) f)
               ]
 
-          along : (A : ℕ) → A / 2 ≡ x / side-of v (pred (v .level x y)) → (B : ℕ) → B / 2 ≡ y / side-of v (pred (v .level x y)) → height A B
-              ≡ height A (y / side-of v (pred (v .level x y)) * 2)
+          along : (A : ℕ) → A / 2 ≡ x / side-of v (pred (v .level x y)) → (B : ℕ) → B / 2 ≡ y / side-of v (pred (v .level x y))
+              → height A B ≡ height A (y / side-of v (pred (v .level x y)) * 2)
           along A e B f =
               let Q = y / side-of v (pred (v .level x y)) in
               elim (cases-eq B (Q * 2)) [

@@ -58,8 +58,8 @@ module _ (v : View) (level′ bed′ : ℕ → ℕ → ℕ) (leaf′ : ℕ → �
     kinds : (c : Block) → Within (v .L) c → tree (like v level′ bed′ leaf′) .kind c ≡ tree v .kind (flip c)
     kinds c w = ap (λ m. sort m (c .k)) (T .levels _ _ (corner-x v c w) (corner-y v c w)) ∙ flip-kind v (good .quadtree) c w
 
-    records : (c : Block) → Within (v .L) c → tree (like v level′ bed′ leaf′) .kind c ≡ whole → tree (like v level′ bed′ leaf′) .leaf c
-        ≡ flip-leaf (tree v .leaf (flip c))
+    records : (c : Block) → Within (v .L) c → tree (like v level′ bed′ leaf′) .kind c ≡ whole
+        → tree (like v level′ bed′ leaf′) .leaf c ≡ flip-leaf (tree v .leaf (flip c))
     records c w h =
         T .leaves _ _ (corner-x v c w) (corner-y v c w)
         ∙ flip-leaves v (good .quadtree) c w (sym (ap (λ m. sort m (c .k)) (T .levels _ _ (corner-x v c w) (corner-y v c w))) ∙ h)
@@ -95,12 +95,12 @@ module _ (v : View) (level′ bed′ : ℕ → ℕ → ℕ) (leaf′ : ℕ → �
     kinds-across : (c : Block) → Within (v .L) c → tree (like v level′ bed′ leaf′) .kind c ≡ tree v .kind (transpose c)
     kinds-across c w = ap (λ m. sort m (c .k)) (T .levels _ _ (corner-x v c w) (corner-y v c w))
 
-    records-across : (c : Block) → Within (v .L) c → tree (like v level′ bed′ leaf′) .kind c ≡ whole → tree (like v level′ bed′ leaf′) .leaf c
-        ≡ transpose-leaf (tree v .leaf (transpose c))
+    records-across : (c : Block) → Within (v .L) c → tree (like v level′ bed′ leaf′) .kind c ≡ whole
+        → tree (like v level′ bed′ leaf′) .leaf c ≡ transpose-leaf (tree v .leaf (transpose c))
     records-across c w h = T .leaves _ _ (corner-x v c w) (corner-y v c w)
 
-    bed-sums-across : (c : Block) → Within (v .L) c → tree (like v level′ bed′ leaf′) .kind c ≡ whole → tree (like v level′ bed′ leaf′) .beds c
-        ≡ tree v .beds (transpose c)
+    bed-sums-across : (c : Block) → Within (v .L) c → tree (like v level′ bed′ leaf′) .kind c ≡ whole
+        → tree (like v level′ bed′ leaf′) .beds c ≡ tree v .beds (transpose c)
     bed-sums-across c w h =
         block-cong (v .L) bed′ (λ x y. v .bed y x) (T .beds) c w
         ∙ grid-across (2 ^ (v .L - c .k)) (λ i j. v .bed (c .Y * 2 ^ (v .L - c .k) + i) (c .X * 2 ^ (v .L - c .k) + j))

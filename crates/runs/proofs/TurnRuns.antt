@@ -38,8 +38,8 @@ record Turner (fx fy : ℕ → ℕ → ℕ → ℕ) (ρ : Leaf → Leaf) : Type 
   shape : (L : ℕ) → Symmetry L (fx L) (fy L) ρ
   steps : (v : View) (level′ bed′ : ℕ → ℕ → ℕ) (leaf′ : ℕ → ℕ → Leaf) → Valid v → Valid (like v level′ bed′ leaf′)
       → Turned v level′ bed′ leaf′ (fx (v .L)) (fy (v .L)) ρ
-      → (R : Rule) → Lawful R → (t x y : ℕ) → x < size v → y < size v → after-step R t (like v level′ bed′ leaf′) .leaf x y
-      ≡ ρ (after-step R t v .leaf (fx (v .L) x y) (fy (v .L) x y))
+      → (R : Rule) → Lawful R → (t x y : ℕ) → x < size v → y < size v
+      → after-step R t (like v level′ bed′ leaf′) .leaf x y ≡ ρ (after-step R t v .leaf (fx (v .L) x y) (fy (v .L) x y))
   moves : (v : View) (level′ bed′ : ℕ → ℕ → ℕ) (leaf′ : ℕ → ℕ → Leaf) → Valid v → Valid (like v level′ bed′ leaf′)
       → Turned v level′ bed′ leaf′ (fx (v .L)) (fy (v .L)) ρ
       → (R : Rule) → Lawful R → (t : ℕ) → moved R t (like v level′ bed′ leaf′) ≡ moved R t v

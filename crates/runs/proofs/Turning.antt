@@ -306,9 +306,8 @@ module _ (v : View) (level′ bed′ : ℕ → ℕ → ℕ) (leaf′ : ℕ → �
         ∙ ap (λ w. finish A w (ρ F .east) (ρ F .north)) (S .ρ-water F)
         ∙ S .ρ-finish A (F .water) F
 
-    pub merge-made : 0 < v .level (fx x y) (fy x y)
-        → Turned (after-merge v (fx x y) (fy x y)) (after-merge (like v level′ bed′ leaf′) x y .level) bed′
-        (after-merge (like v level′ bed′ leaf′) x y .leaf) fx fy ρ
+    pub merge-made : 0 < v .level (fx x y) (fy x y) → Turned (after-merge v (fx x y) (fy x y))
+        (after-merge (like v level′ bed′ leaf′) x y .level) bed′ (after-merge (like v level′ bed′ leaf′) x y .leaf) fx fy ρ
     merge-made z =
         record {
           levels = λ x′ y′ a′ b′. λ i. cond (parents x y a b x′ y′ a′ b′ i) (pred (levels-turn x y a b i)) (T .levels x′ y′ a′ b′ i);

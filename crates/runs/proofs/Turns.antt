@@ -75,7 +75,7 @@ flip-edge L South c w = refl
 flip-beyond : (L : ℕ) (p : Dir) (c : Block) → Within L c → at-edge p c ≡ false → flip (beyond p c) ≡ beyond (flip-dir p) (flip c)
 flip-beyond L East c w e = ap (λ x. block (c .k) x (c .Y)) (omega arith)
 flip-beyond L North c w e = refl
-flip-beyond L West c w e = let from-same-block = eqb-false (c .X) 0 e in ap (λ x. block (c .k) x (c .Y)) (omega (arith, w .east))
+flip-beyond L West c w e = let inner = eqb-false (c .X) 0 e in ap (λ x. block (c .k) x (c .Y)) (omega (arith, w .east))
 flip-beyond L South c w e = refl
 
 flip-parent : (L : ℕ) (b : Block) → Within L b → 0 < b .k → flip (parent b) ≡ parent (flip b)
@@ -138,10 +138,10 @@ record Action (δ : Dir → Dir) (ρ : Leaf → Leaf) (σ : Dir → State → St
   states : (p : Dir) (h : ℕ) (l : Leaf) → state-at p h (ρ l) ≡ σ p (state-at (δ p) h l)
   mirrors : (p : Dir) (s : State) → mirrored (σ p s) ≡ σ p (mirrored s)
   flows : (T : ℕ) (t : Tree) (p : Dir) (a : Face) → Fine (a .near) → Fine (a .far) → wish R T t p (turn-face (σ p) a) ≡ wish R T t (δ p) a
-  all-across : (T : ℕ) (t : Tree) (p : Dir) (a : Face) → Fine (a .near) → Fine (a .far) → momentum-across-at R T t p (turn-face (σ p) a)
-      ≡ ε p (momentum-across-at R T t (δ p) a)
-  all-along : (T : ℕ) (t : Tree) (p : Dir) (a : Face) → Fine (a .near) → Fine (a .far) → momentum-along-at R T t p (turn-face (σ p) a)
-      ≡ ζ p (momentum-along-at R T t (δ p) a)
+  all-across : (T : ℕ) (t : Tree) (p : Dir) (a : Face) → Fine (a .near) → Fine (a .far)
+      → momentum-across-at R T t p (turn-face (σ p) a) ≡ ε p (momentum-across-at R T t (δ p) a)
+  all-along : (T : ℕ) (t : Tree) (p : Dir) (a : Face) → Fine (a .near) → Fine (a .far)
+      → momentum-along-at R T t p (turn-face (σ p) a) ≡ ζ p (momentum-along-at R T t (δ p) a)
   ε-add : (p : Dir) (x y : ℤ) → ε p (x +ℤ y) ≡ ε p x +ℤ ε p y
   ζ-add : (p : Dir) (x y : ℤ) → ζ p (x +ℤ y) ≡ ζ p x +ℤ ζ p y
 
@@ -199,18 +199,18 @@ module _ (t : Tree) (kind′ : Block → Kind) (leaf′ : Block → Leaf) (beds�
         (beds″ : (c : Block) → Within (t .L) c → kind′ c ≡ whole → beds′ c ≡ t .beds (τ c))
         (bounded : (c : Block) → Within (t .L) c → t .kind c ≡ whole → Bounded t c)
       where
-        poured : (c : Block) → Within (t .L) c → kind′ c ≡ whole → Bounded t (τ c)
-        poured c v h = bounded (τ c) (motion .within c v) (sym (kinds c v) ∙ h)
+        bounded-from : (c : Block) → Within (t .L) c → kind′ c ≡ whole → Bounded t (τ c)
+        bounded-from c v h = bounded (τ c) (motion .within c v) (sym (kinds c v) ∙ h)
 
         fine-face : (p : Dir) (c b : Block) → Within (t .L) c → kind′ c ≡ whole → Within (t .L) b → kind′ b ≡ whole
             → Fine (face t (δ p) (τ c) (τ b) .near) × Fine (face t (δ p) (τ c) (τ b) .far)
         fine-face p c b v h w k =
             let m = max (block-bed t (τ c)) (block-bed t (τ b)) in
-            (fine t (δ p) (τ c) m (poured c v h) (omega arith), fine t (δ p) (τ b) m (poured b w k) (omega arith))
+            (fine t (δ p) (τ c) m (bounded-from c v h) (omega arith), fine t (δ p) (τ b) m (bounded-from b w k) (omega arith))
 
         fine-wall : (p : Dir) (c : Block) → Within (t .L) c → kind′ c ≡ whole → Fine (wall-face t (δ p) (τ c) .near) × Fine (wall-face t (δ p) (τ c) .far)
         fine-wall p c v h =
-            let f = fine t (δ p) (τ c) (block-bed t (τ c)) (poured c v h) (omega arith) in
+            let f = fine t (δ p) (τ c) (block-bed t (τ c)) (bounded-from c v h) (omega arith) in
             (f, fine-mirrored (state t (δ p) (τ c) (block-bed t (τ c))) f)
 
         abbrev t′ : Tree
@@ -397,16 +397,16 @@ flip-action R law =
         ∙ ap up (negℤ-negℤ (scaled (t .d) T (R .flow (a .near) (a .far)) (a .e)))
     flows T t South a fn ff = ap (λ z. up (negℤ (scaled (t .d) T z (a .e)))) (law .along-flow (a .far) (a .near) ff fn)
 
-    all-across : (T : ℕ) (t : Tree) (p : Dir) (a : Face) → Fine (a .near) → Fine (a .far) → momentum-across-at R T t p (turn-face (flip-state p) a)
-        ≡ flip-across p (momentum-across-at R T t (flip-dir p) a)
+    all-across : (T : ℕ) (t : Tree) (p : Dir) (a : Face) → Fine (a .near) → Fine (a .far)
+        → momentum-across-at R T t p (turn-face (flip-state p) a) ≡ flip-across p (momentum-across-at R T t (flip-dir p) a)
     all-across T t East a fn ff = rw (law .mirror-push (a .far) (a .near) ff fn)
         (sym (negℤ-negℤ (negℤ (scaled (t .d) T (R .push (a .far) (a .near) -ℤ pos (4905 * a .near .h * a .near .h)) (a .e)))))
     all-across T t North a fn ff = rw (law .along-push (a .near) (a .far) fn ff) refl
     all-across T t West a fn ff = rw (law .mirror-push (a .near) (a .far) fn ff) refl
     all-across T t South a fn ff = rw (law .along-push (a .far) (a .near) ff fn) refl
 
-    all-along : (T : ℕ) (t : Tree) (p : Dir) (a : Face) → Fine (a .near) → Fine (a .far) → momentum-along-at R T t p (turn-face (flip-state p) a)
-        ≡ flip-along p (momentum-along-at R T t (flip-dir p) a)
+    all-along : (T : ℕ) (t : Tree) (p : Dir) (a : Face) → Fine (a .near) → Fine (a .far)
+        → momentum-along-at R T t p (turn-face (flip-state p) a) ≡ flip-along p (momentum-along-at R T t (flip-dir p) a)
     all-along T t East a fn ff = rw (law .mirror-drift (a .far) (a .near) ff fn) (ap negℤ (scaled-neg (t .d) T (R .drift (a .far) (a .near)) (a .e)))
     all-along T t North a fn ff = rw (law .along-drift (a .near) (a .far) fn ff) (ap negℤ (scaled-neg (t .d) T (R .drift (a .near) (a .far)) (a .e)))
     all-along T t West a fn ff = rw (law .mirror-drift (a .near) (a .far) fn ff)

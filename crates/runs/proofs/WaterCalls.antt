@@ -109,8 +109,8 @@ one-leaf w k X Y h a b lv =
 
 module _ (v : View) (good : Valid v) where
   -- a square's leaf is that of its corner
-  pub corner-leaf : (p q k : ℕ) → p < size v → q < size v → v .level p q ≡ k → v .leaf p q
-      ≡ v .leaf (p / side-of v k * side-of v k) (q / side-of v k * side-of v k)
+  pub corner-leaf : (p q k : ℕ) → p < size v → q < size v → v .level p q ≡ k
+      → v .leaf p q ≡ v .leaf (p / side-of v k * side-of v k) (q / side-of v k * side-of v k)
   corner-leaf p q k a b e =
       let h : k ≤ v .L = omega (arith, good .quadtree .shallow p q a b) in
       let s = side-of v k in
@@ -187,8 +187,8 @@ module _ (v : View) (good : Valid v) where
         drop true A V X Y = refl
         drop false A V X Y = refl
 
-    pub split-water : leb (v .L) (v .level x y) ≡ false → ((wet v x y ≡ true) → bare v x y ≡ false) → all-water (after-split v x y) + remainder v x y
-        ≡ all-water v
+    pub split-water : leb (v .L) (v .level x y) ≡ false → ((wet v x y ≡ true) → bare v x y ≡ false)
+        → all-water (after-split v x y) + remainder v x y ≡ all-water v
     split-water t₅ t₇ =
         let k = v .level x y in
         let s = side-of v (suc k) in
@@ -240,8 +240,7 @@ module _ (v : View) (good : Valid v) where
             (sym f ∙ ap (λ n. n / 2) (sym (mul-div-cancel B z)) ∙ div-div-eq-div-mul (B * s) s 2 ∙ ap (λ n. B * s / n) (sym t)) in
             let n = not-and _ _ (none (size v) (λ p q. same-block v k x y p q && ltb (child-water v x y p q) 1) (t₇ u) (A * s) (B * s)
             (omega (arith, inside (v .L) (suc k) A 0 h inA z)) (omega (arith, inside (v .L) (suc k) B 0 h inB z))) here in
-            let g : bed-sum v (suc k) (A * s) (B * s)
-            ≡ block-sum (v .L) (v .bed) (block (suc k) A B) = λ i. block-sum (v .L) (v .bed)
+            let g : bed-sum v (suc k) (A * s) (B * s) ≡ block-sum (v .L) (v .bed) (block (suc k) A B) = λ i. block-sum (v .L) (v .bed)
             (block (suc k) (mul-div-cancel A z i) (mul-div-cancel B z i)) in
             omega (arith, ltb-false (child-water v x y (A * s) (B * s)) 1 n, g)
 
@@ -312,8 +311,8 @@ module _ (v : View) (good : Valid v) where
           ∙ fourfold corner-water (x / s) (twin s x / s) (y / s) (twin s y / s) (x / S) (y / S) hx hy (twin-div s x (side-pos (v .L - k)))
           (twin-div s y (side-pos (v .L - k)))
         where
-          fourfold : (c : ℕ → ℕ → ℕ) (q q̄ r r̄ P Q : ℕ) → q / 2 ≡ P → r / 2 ≡ Q → q̄ ≡ cond (eqb (q % 2) 0) (q + 1) (q - 1) → r̄
-              ≡ cond (eqb (r % 2) 0) (r + 1) (r - 1)
+          fourfold : (c : ℕ → ℕ → ℕ) (q q̄ r r̄ P Q : ℕ) → q / 2 ≡ P → r / 2 ≡ Q → q̄ ≡ cond (eqb (q % 2) 0) (q + 1) (q - 1)
+              → r̄ ≡ cond (eqb (r % 2) 0) (r + 1) (r - 1)
               → c q r + c q̄ r + (c q r̄ + c q̄ r̄) ≡ c (P * 2) (Q * 2) + c (P * 2 + 1) (Q * 2) + (c (P * 2) (Q * 2 + 1) + c (P * 2 + 1) (Q * 2 + 1))
           fourfold c q q̄ r r̄ P Q hq hr eq er = go (eqb (q % 2) 0) refl (eqb (r % 2) 0) refl
             where

@@ -58,7 +58,7 @@ module _ (v : View) where
   abbrev pub full : ℕ → ℕ → ℕ → Bool
   full x y m = not (may-hold (area v (v .level x y)) m)
 
-  -- the larger of the leaf's two speeds, and the speed of its waves
+  -- the larger of the leaf's two speeds plus the speed of its waves
   abbrev pub pace : ℕ → ℕ → ℕ
   pace x y =
       max (natAbs (v .leaf x y .east) / water v x y) (natAbs (v .leaf x y .north) / water v x y)
