@@ -19,7 +19,7 @@ pub use numbers::fault::NumberFault;
 pub use numbers::report::Layer;
 pub use numbers::report::Report;
 
-/// The worked examples of the documentation, all of them proved of the definitions that the calls meet.
+/// Worked examples, proved of the definitions that the calls meet.
 pub fn worked_examples()
     ensures { λ _. ⌜ Worked ⌝ }
 {}
