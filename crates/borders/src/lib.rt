@@ -1,4 +1,6 @@
 // What the faces of one leaf do to it in a step.
+#![tactic(auto)]
+
 pub mod around;
 pub mod border;
 pub mod drain;

@@ -1,4 +1,6 @@
 // The file of a basin.
+#![tactic(auto)]
+
 pub mod beds;
 pub mod fault;
 pub mod file;

@@ -1,4 +1,6 @@
 // Writing a basin's file.
+#![tactic(auto)]
+
 pub mod beds;
 pub mod file;
 pub mod node;

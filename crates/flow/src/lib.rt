@@ -1,4 +1,6 @@
 // Flow rules: what passes across a face between two sides of water.
+#![tactic(auto)]
+
 pub mod central;
 pub mod choice;
 pub mod flux;

@@ -1,4 +1,6 @@
 // Prints what the flow rules answer, for lines with a rule's name and the numbers of two sides.
+#![tactic(auto)]
+
 mod question;
 
 use crate::question::{Question, Stop, parse};

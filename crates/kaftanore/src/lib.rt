@@ -1,4 +1,6 @@
 // The outside of the library: the types and calls that programs use.
+#![tactic(auto)]
+
 ghost use Rattle.kaftanore.specs.Worked.{Worked};
 
 pub use basin::head::Head;

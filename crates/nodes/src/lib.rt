@@ -1,4 +1,6 @@
 // The tree of a basin file, read into the tables that it describes.
+#![tactic(auto)]
+
 pub mod fault;
 pub mod node;
 pub mod record;

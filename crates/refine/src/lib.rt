@@ -1,4 +1,6 @@
 // Refining and coarsening the tree: split and merge.
+#![tactic(auto)]
+
 pub mod divide;
 pub mod flood;
 pub mod join;

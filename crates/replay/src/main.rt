@@ -1,4 +1,6 @@
 // Performs a log of calls, one a line, and prints what each answers.
+#![tactic(auto)]
+
 mod command;
 mod hex;
 mod session;

@@ -1,4 +1,6 @@
 // The calls of a run as definitions over squares, and what holds of every list of them.
+#![tactic(auto)]
+
 ghost use Rattle.runs.specs.Refusing.{RefusesLowest, RefusalKeeps, RefusesFlaws};
 ghost use Rattle.runs.specs.Roots.{Roots};
 ghost use Rattle.runs.specs.Rules.{WallsHold};

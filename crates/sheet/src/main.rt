@@ -1,4 +1,6 @@
 // The sheet of a basin file: its head, and a line for each leaf.
+#![tactic(auto)]
+
 ghost use Rattle.basin.specs.Basins.{basin_of, ValidBasin};
 
 mod line;

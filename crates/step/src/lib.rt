@@ -1,4 +1,6 @@
 // A step of the water on a basin.
+#![tactic(auto)]
+
 pub mod ends;
 pub mod fast;
 pub mod step;

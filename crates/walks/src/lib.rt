@@ -1,2 +1,4 @@
 // All leaves' visits in a step, in the order of the tables.
+#![tactic(auto)]
+
 pub mod walk;

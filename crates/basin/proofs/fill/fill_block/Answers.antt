@@ -6,11 +6,11 @@ use Rattle.basin.proofs.fill.fill_block.Goals as goal
 pub loop-j-init : goal.loop-j-init
 loop-j-init g c = square_none _ _ _ _ _
 
-pub overflow-mul-start : goal.overflow-mul-start
-overflow-mul-start g c = omega (arith, inside c.args.corner c.loop-j.j c.args.side c.args.stride (length c.args.table.now) (omega arith) c.requires)
+pub overflow_mul-start : goal.overflow_mul-start
+overflow_mul-start g c = omega (arith, inside c.args.corner c.loop-j.j c.args.side c.args.stride (length c.args.table.now) (omega arith) c.requires)
 
-pub overflow-add-start : goal.overflow-add-start
-overflow-add-start g c = omega (arith, inside c.args.corner c.loop-j.j c.args.side c.args.stride (length c.args.table.now) (omega arith) c.requires)
+pub overflow_add-start : goal.overflow_add-start
+overflow_add-start g c = omega (arith, inside c.args.corner c.loop-j.j c.args.side c.args.stride (length c.args.table.now) (omega arith) c.requires)
 
 pub loop-i-init : goal.loop-i-init
 loop-i-init g c = (row_none _ _ _, omega (arith, inside c.args.corner c.loop-j.j c.args.side c.args.stride (length c.args.table.now) (omega arith) c.requires))

@@ -8,14 +8,14 @@ use Rattle.borders.specs.Borders.{border_of}
 use Rattle.borders.proofs.Adding.{same_border, add_back, add_back_small, add_fits}
 use Rattle.borders.proofs.around.border.Goals as goal
 
-pub overflow-add-result : goal.overflow-add-result
-overflow-add-result g c =
+pub overflow_add-result : goal.overflow_add-result
+overflow_add-result g c =
     let fa : SFits w64 c.between-one-in-Two.result.across = search rules in
     let fb : SFits w64 c.between-two.result.across = search rules in
     add_fits _ _ fa fb c.between-one-in-Two.ensures.small.across c.between-two.ensures.small.across
 
-pub overflow-add-result-in-Two : goal.overflow-add-result-in-Two
-overflow-add-result-in-Two g c =
+pub overflow_add-result-in-Two : goal.overflow_add-result-in-Two
+overflow_add-result-in-Two g c =
     let fa : SFits w64 c.between-one-in-Two.result.along = search rules in
     let fb : SFits w64 c.between-two.result.along = search rules in
     add_fits _ _ fa fb c.between-one-in-Two.ensures.small.along c.between-two.ensures.small.along
@@ -24,13 +24,13 @@ pub returns-in-Wall : goal.returns-in-Wall
 unfolding border_of
 returns-in-Wall g c =
     let R = g.R.FlowRule.meaning c.args.rule.now in
-    let a = c.at-wall-wall.ensures in
-    let ft : SFits w64 c.at-wall-wall.result.across = search rules in
-    let fd : SFits w64 c.at-wall-wall.result.along = search rules in
+    let a = c.at_wall-wall.ensures in
+    let ft : SFits w64 c.at_wall-wall.result.across = search rules in
+    let fd : SFits w64 c.at_wall-wall.result.along = search rules in
     record {
       value = same_border _ _ _ _ refl refl (back _ _ ft a.across) (back _ _ fd a.along)
           ∙ ap (λ e. border_of R c.args.pace.time c.args.pace.width c.args.head.levels c.args.beds.now c.args.leaves.now c.args.dir c.args.near (as_side e)) (sym c.in-Wall.is);
-      small = record { first = omega arith; second = omega arith; across = abs_back c.at-wall-wall.result.across _ ft (omega (arith, a.small.across)); along = abs_back c.at-wall-wall.result.along _ fd (omega (arith, a.small.along)) };
+      small = record { first = omega arith; second = omega arith; across = abs_back c.at_wall-wall.result.across _ ft (omega (arith, a.small.across)); along = abs_back c.at_wall-wall.result.along _ fd (omega (arith, a.small.along)) };
     }
 
 pub returns-in-One : goal.returns-in-One
@@ -63,8 +63,8 @@ returns-in-Two g c =
     let near = c.args.near in
     let a = c.between-one-in-Two.ensures in
     let b = c.between-two.ensures in
-    let e = c.pool-in-Two.ensures in
-    let f = c.pool-in-Two-2.ensures in
+    let e = c.pool_in-Two.ensures in
+    let f = c.pool_in-Two-2.ensures in
     let at : SFits w64 c.between-one-in-Two.result.across = search rules in
     let ad : SFits w64 c.between-one-in-Two.result.along = search rules in
     let bt : SFits w64 c.between-two.result.across = search rules in

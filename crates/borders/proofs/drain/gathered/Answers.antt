@@ -4,8 +4,8 @@ use Rattle.std.proofs.lemmas.Int.{ints, to_z-of_z}
 use Rattle.borders.proofs.Adding.{sum_fits}
 use Rattle.borders.proofs.drain.gathered.Goals as goal
 
-pub overflow-add-result-4 : goal.overflow-add-result-4
-overflow-add-result-4 c =
+pub overflow_add-result-4 : goal.overflow_add-result-4
+overflow_add-result-4 c =
     let x = c.args.discharge in
     let a = c.args.a in
     let b = c.args.b in

@@ -6,30 +6,30 @@ use Rattle.calls.proofs.Placing.{located_fits}
 use Rattle.calls.proofs.Watered.{draw_refused, draw_out, draw_over, draw_granted}
 use Rattle.calls.proofs.water.draw.Goals as goal
 
-pub returns-in-err-spot : goal.returns-in-err-spot
-returns-in-err-spot c =
-    let p = err_from_is_err_and c.from-residual.result c.from-residual.ensures.1 in
-    rw (p.1, p.2) (draw_refused (basin_of c.args.head c.args.levels.now c.args.beds.now c.args.leaves.now) _ _ _ c.in-err-spot.ensures c.args.amount)
+pub returns-in_err-spot : goal.returns-in_err-spot
+returns-in_err-spot c =
+    let p = err_from_is_err_and c.from_residual.result c.from_residual.ensures.1 in
+    rw (p.1, p.2) (draw_refused (basin_of c.args.head c.args.levels.now c.args.beds.now c.args.leaves.now) _ _ _ c.in_err-spot.ensures c.args.amount)
 
-pub returns-then-out-of-range : goal.returns-then-out-of-range
-returns-then-out-of-range c =
+pub returns-then-out_of_range : goal.returns-then-out_of_range
+returns-then-out_of_range c =
     draw_out (basin_of c.args.head c.args.levels.now c.args.beds.now c.args.leaves.now) _ _ _
-    c.in-ok-spot.ensures _ (sym c.out-of-range.ensures ∙ c.if-out-of-range.true)
+    c.in_ok-spot.ensures _ (sym c.out_of_range.ensures ∙ c.if-out_of_range.true)
 
 pub bounds-leaves-spot : goal.bounds-leaves-spot
 bounds-leaves-spot c =
-    let f = located_fits (basin_of c.args.head c.args.levels.now c.args.beds.now c.args.leaves.now) _ _ _ c.in-ok-spot.ensures in
+    let f = located_fits (basin_of c.args.head c.args.levels.now c.args.beds.now c.args.leaves.now) _ _ _ c.in_ok-spot.ensures in
     omega (arith, f.inside, f.all_leaves)
 
 pub returns-then-amount-water : goal.returns-then-amount-water
 returns-then-amount-water c =
     draw_over (basin_of c.args.head c.args.levels.now c.args.beds.now c.args.leaves.now) _ _ _
-    c.in-ok-spot.ensures _ (sym c.out-of-range.ensures ∙ c.if-out-of-range.false) c.if-amount-water.true
+    c.in_ok-spot.ensures _ (sym c.out_of_range.ensures ∙ c.if-out_of_range.false) c.if-amount-water.true
 
 pub refill-requires : goal.refill-requires
-refill-requires c = located_fits (basin_of c.args.head c.args.levels.now c.args.beds.now c.args.leaves.now) _ _ _ c.in-ok-spot.ensures
+refill-requires c = located_fits (basin_of c.args.head c.args.levels.now c.args.beds.now c.args.leaves.now) _ _ _ c.in_ok-spot.ensures
 
 pub returns : goal.returns
 returns c =
     draw_granted (basin_of c.args.head c.args.levels.now c.args.beds.now c.args.leaves.now) _ _ _
-    c.in-ok-spot.ensures _ (sym c.out-of-range.ensures ∙ c.if-out-of-range.false) c.if-amount-water.false _ _ c.refill.ensures.leaves c.refill.ensures.surface
+    c.in_ok-spot.ensures _ (sym c.out_of_range.ensures ∙ c.if-out_of_range.false) c.if-amount-water.false _ _ c.refill.ensures.leaves c.refill.ensures.surface

@@ -7,28 +7,28 @@ use Rattle.calls.proofs.Refilled.{area_fits}
 use Rattle.calls.proofs.Watered.{settle_refused, settle_full, settle_granted}
 use Rattle.calls.proofs.water.settle.Goals as goal
 
-pub returns-in-err-spot : goal.returns-in-err-spot
-returns-in-err-spot c =
-    let p = err_from_is_err_and c.from-residual.result c.from-residual.ensures.1 in
-    rw (p.1, p.2) (settle_refused (basin_of c.args.head.now c.args.levels.now c.args.beds.now c.args.leaves.now) _ _ _ c.in-err-spot.ensures)
+pub returns-in_err-spot : goal.returns-in_err-spot
+returns-in_err-spot c =
+    let p = err_from_is_err_and c.from_residual.result c.from_residual.ensures.1 in
+    rw (p.1, p.2) (settle_refused (basin_of c.args.head.now c.args.levels.now c.args.beds.now c.args.leaves.now) _ _ _ c.in_err-spot.ensures)
 
 pub bounds-leaves-spot : goal.bounds-leaves-spot
 bounds-leaves-spot c =
-    let f = located_fits (basin_of c.args.head.now c.args.levels.now c.args.beds.now c.args.leaves.now) _ _ _ c.in-ok-spot.ensures in
+    let f = located_fits (basin_of c.args.head.now c.args.levels.now c.args.beds.now c.args.leaves.now) _ _ _ c.in_ok-spot.ensures in
     omega (arith, f.inside, f.all_leaves)
 
-pub may-hold-requires : goal.may-hold-requires
-may-hold-requires c = area_fits (basin_of c.args.head.now c.args.levels.now c.args.beds.now c.args.leaves.now) _ _ _ c.in-ok-spot.ensures
+pub may_hold-requires : goal.may_hold-requires
+may_hold-requires c = area_fits (basin_of c.args.head.now c.args.levels.now c.args.beds.now c.args.leaves.now) _ _ _ c.in_ok-spot.ensures
 
-pub returns-then-not-may-hold : goal.returns-then-not-may-hold
-returns-then-not-may-hold c =
+pub returns-then-not-may_hold : goal.returns-then-not-may_hold
+returns-then-not-may_hold c =
     settle_full (basin_of c.args.head.now c.args.levels.now c.args.beds.now c.args.leaves.now) _ _ _
-    c.in-ok-spot.ensures _ c.may_hold.ensures c.if-not-may-hold.true
+    c.in_ok-spot.ensures _ c.may_hold.ensures c.if-not-may_hold.true
 
 pub refill-requires : goal.refill-requires
-refill-requires c = located_fits (basin_of c.args.head.now c.args.levels.now c.args.beds.now c.args.leaves.now) _ _ _ c.in-ok-spot.ensures
+refill-requires c = located_fits (basin_of c.args.head.now c.args.levels.now c.args.beds.now c.args.leaves.now) _ _ _ c.in_ok-spot.ensures
 
 pub returns : goal.returns
 returns c =
     settle_granted (basin_of c.args.head.now c.args.levels.now c.args.beds.now c.args.leaves.now) _ _ _
-    c.in-ok-spot.ensures _ c.may_hold.ensures c.if-not-may-hold.false _ c.refill.ensures.leaves
+    c.in_ok-spot.ensures _ c.may_hold.ensures c.if-not-may_hold.false _ c.refill.ensures.leaves

@@ -3,17 +3,17 @@ use Rattle.std.proofs.lemmas.List.{take_all}
 use Rattle.codec.proofs.Bedding.{beds_step, beds_stop, beds_end}
 use Rattle.codec.proofs.beds.read_beds.Goals as goal
 
-pub returns-in-err-height : goal.returns-in-err-height
-returns-in-err-height c =
-    let e = c.loop-bed.invariant ∙ beds_stop _ _ _ _ _ (omega arith) c.in-err-height.ensures in
+pub returns-in_err-height : goal.returns-in_err-height
+returns-in_err-height c =
+    let e = c.loop-bed.invariant ∙ beds_stop _ _ _ _ _ (omega arith) c.in_err-height.ensures in
     record { next = rw e (search rules); beds = rw e tt }
 
 pub loop-bed-preserved : goal.loop-bed-preserved
 loop-bed-preserved c =
     let h : c.loop-bed.bed-index < length c.loop-bed.beds = omega arith in
     let s : length c.args.beds.now - (c.loop-bed.bed-index + 1) ≡ length c.args.beds.now - c.loop-bed.bed-index - 1 = omega arith in
-    c.loop-bed.invariant ∙ (beds_step _ _ _ _ _ _ (omega arith) c.in-ok-height.ensures
-    ∙ rw (s, add-one, take-suc-set c.loop-bed.beds c.loop-bed.bed-index c.in-ok-height.height) refl)
+    c.loop-bed.invariant ∙ (beds_step _ _ _ _ _ _ (omega arith) c.in_ok-height.ensures
+    ∙ rw (s, add-one, take-suc-set c.loop-bed.beds c.loop-bed.bed-index c.in_ok-height.height) refl)
 
 pub returns : goal.returns
 returns c =

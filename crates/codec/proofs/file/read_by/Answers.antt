@@ -7,50 +7,50 @@ use Rattle.codec.specs.declared.fault.FileFault.TheVariants.{Tree}
 use Rattle.codec.specs.Files.{body_at, file_at}
 use Rattle.codec.proofs.Whole.{file_no_head, file_no_body, no_body, file_told, read_refused, read_misfit, read_granted}
 use Rattle.codec.proofs.file.read_by.Goals as goal
-use Rattle.codec.proofs.file.read_by.Goals.{After-is-balanced, at·returns, at·returns-then-not-is-balanced, at·returns-then-levels-squares}
+use Rattle.codec.proofs.file.read_by.Goals.{After-is_balanced, at·returns, at·returns-then-not-is_balanced, at·returns-then-levels-squares}
 
-pub returns-in-err-head : goal.returns-in-err-head
-returns-in-err-head c =
-    let p = err_from_is_err_and c.from-residual.result c.from-residual.ensures.1 in
-    rw (p.1, p.2) (read_refused _ _ _ (file_no_head c.args.bytes.now _ (sym c.in-err-head.ensures)))
+pub returns-in_err-head : goal.returns-in_err-head
+returns-in_err-head c =
+    let p = err_from_is_err_and c.from_residual.result c.from_residual.ensures.1 in
+    rw (p.1, p.2) (read_refused _ _ _ (file_no_head c.args.bytes.now _ (sym c.in_err-head.ensures)))
 
-pub returns-in-err-read-body : goal.returns-in-err-read-body
-returns-in-err-read-body c =
-    let p = err_from_is_err_and c.from-residual-in-err-read-body.result c.from-residual-in-err-read-body.ensures.1 in
-    let e = no_body _ _ c.in-err-read-body.ensures.whether in
-    rw (p.1, p.2) (read_refused _ _ _ (file_no_body c.args.bytes.now (heading c.in-ok-head.head) c.in-ok-head.at _ (sym c.in-ok-head.ensures) e))
+pub returns-in_err-read_body : goal.returns-in_err-read_body
+returns-in_err-read_body c =
+    let p = err_from_is_err_and c.from_residual-in_err-read_body.result c.from_residual-in_err-read_body.ensures.1 in
+    let e = no_body _ _ c.in_err-read_body.ensures.whether in
+    rw (p.1, p.2) (read_refused _ _ _ (file_no_body c.args.bytes.now (heading c.in_ok-head.head) c.in_ok-head.at _ (sym c.in_ok-head.ensures) e))
 
 -- the file, once the balance of what was read is known
-told : (c : After-is-balanced)
+told : (c : After-is_balanced)
     → file_at c.args.bytes.now
-    ≡ cond c.is-balanced.result
-    (Ok (basin (heading c.in-ok-head.head) (tables c.read-body.new.levels c.read-body.new.beds c.read-body.new.leaves)))
+    ≡ cond c.is_balanced.result
+    (Ok (basin (heading c.in_ok-head.head) (tables c.read_body.new.levels c.read_body.new.beds c.read_body.new.leaves)))
     (Err (Tree (Unbalanced (length c.args.bytes.now))))
 told c =
-    file_told c.args.bytes.now (heading c.in-ok-head.head) c.in-ok-head.at c.side.result _ c.is-balanced.result
-    (sym c.in-ok-head.ensures) c.in-ok-read-body.ensures.whether c.in-ok-read-body.ensures.tables
-    c.side.ensures.value c.is-balanced.ensures
+    file_told c.args.bytes.now (heading c.in_ok-head.head) c.in_ok-head.at c.side.result _ c.is_balanced.result
+    (sym c.in_ok-head.ensures) c.in_ok-read_body.ensures.whether c.in_ok-read_body.ensures.tables
+    c.side.ensures.value c.is_balanced.ensures
 
 -- and where it is balanced
-charts : (c : After-is-balanced) → c.is-balanced.result ≡ true
+charts : (c : After-is_balanced) → c.is_balanced.result ≡ true
     → file_at c.args.bytes.now
-    ≡ Ok (basin (heading c.in-ok-head.head) (tables c.read-body.new.levels c.read-body.new.beds c.read-body.new.leaves))
+    ≡ Ok (basin (heading c.in_ok-head.head) (tables c.read_body.new.levels c.read_body.new.beds c.read_body.new.leaves))
 charts c e = told c ∙ rw e refl
 
-pub returns-then-not-is-balanced : goal.returns-then-not-is-balanced
-returns-then-not-is-balanced c =
-    read_refused _ _ _ (told (at·returns-then-not-is-balanced c).After-is-balanced ∙ rw c.if-not-is-balanced.true refl)
+pub returns-then-not-is_balanced : goal.returns-then-not-is_balanced
+returns-then-not-is_balanced c =
+    read_refused _ _ _ (told (at·returns-then-not-is_balanced c).After-is_balanced ∙ rw c.if-not-is_balanced.true refl)
 
 pub returns-then-levels-squares : goal.returns-then-levels-squares
 returns-then-levels-squares c =
-    read_misfit _ _ _ (charts (at·returns-then-levels-squares c).After-is-balanced c.if-not-is-balanced.false)
+    read_misfit _ _ _ (charts (at·returns-then-levels-squares c).After-is_balanced c.if-not-is_balanced.false)
     (is_misfit _ _ (not_full _ _ _ c.squares-squares.ensures.value c.then-levels-squares.either))
 
 pub returns : goal.returns
 returns c =
-    let levels = c.copy-from-slice.ensures.after in
-    let beds = c.copy-from-slice-2.ensures.after in
-    let leaves = c.copy-from-slice-3.ensures.after in
-    (λ i. (Ok (heading c.in-ok-head.head), tables (levels i) (beds i) (leaves i)))
-    ∙ read_granted _ _ _ (charts (at·returns c).After-is-balanced c.if-not-is-balanced.false)
+    let levels = c.copy_from_slice.ensures.after in
+    let beds = c.copy_from_slice-2.ensures.after in
+    let leaves = c.copy_from_slice-3.ensures.after in
+    (λ i. (Ok (heading c.in_ok-head.head), tables (levels i) (beds i) (leaves i)))
+    ∙ read_granted _ _ _ (charts (at·returns c).After-is_balanced c.if-not-is_balanced.false)
     (no_misfit _ _ (are_full _ _ _ c.squares-squares.ensures.value c.if-levels-squares.false c.if-beds-squares.false c.if-leaves-squares.false))

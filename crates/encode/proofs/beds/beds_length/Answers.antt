@@ -8,7 +8,7 @@ loop-bed-init c = (record { ends = refl }, omega arith)
 
 pub loop-bed-preserved : goal.loop-bed-preserved
 loop-bed-preserved c =
-    (rw c.number-length-length.ensures.value (passed_more _ _ _ _ (omega arith) c.loop-bed.invariant.0), omega (arith, c.number-length-length.ensures.most))
+    (rw c.number_length-length.ensures.value (passed_more _ _ _ _ (omega arith) c.loop-bed.invariant.0), omega (arith, c.number_length-length.ensures.most))
 
 pub returns : goal.returns
 returns c =

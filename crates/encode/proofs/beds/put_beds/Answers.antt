@@ -6,13 +6,13 @@ use Rattle.encode.proofs.beds.put_beds.Goals as goal
 pub loop-bed-init : goal.loop-bed-init
 loop-bed-init c = record { passed = record { ends = refl }; bytes = refl }
 
-pub put-number-here-requires : goal.put-number-here-requires
-put-number-here-requires c =
+pub put_number-here-requires : goal.put_number-here-requires
+put_number-here-requires c =
     record { small = omega arith; room = omega (arith, passed_room _ _ _ _ _ (omega arith) c.loop-bed.invariant.passed c.requires) }
 
 pub loop-bed-preserved : goal.loop-bed-preserved
 loop-bed-preserved c =
-    rw (c.put-number-here.ensures.place, c.put-number-here.ensures.bytes) (laid_more _ _ _ _ _ _ (omega arith) c.loop-bed.invariant)
+    rw (c.put_number-here.ensures.place, c.put_number-here.ensures.bytes) (laid_more _ _ _ _ _ _ (omega arith) c.loop-bed.invariant)
 
 pub returns : goal.returns
 returns c =

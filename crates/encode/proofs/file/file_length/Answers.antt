@@ -5,8 +5,8 @@ use Rattle.basin.proofs.Sizes.{area_small}
 use Rattle.encode.proofs.Whole.{file_parts}
 use Rattle.encode.proofs.file.file_length.Goals as goal
 
-pub beds-length-requires : goal.beds-length-requires
-beds-length-requires c =
+pub beds_length-requires : goal.beds_length-requires
+beds_length-requires c =
     omega (arith, c.requires.full.beds, area_small c.args.head.levels _ (omega (arith, c.requires.head.levels)) refl)
 
 pub returns : goal.returns

@@ -5,36 +5,36 @@ use Rattle.encode.proofs.Puts.{put, then}
 use Rattle.encode.proofs.Whole.{file_parts}
 use Rattle.encode.proofs.file.put_file.Goals as goal
 
-pub put-number-width-at-requires : goal.put-number-width-at-requires
-put-number-width-at-requires c =
+pub put_number-width_at-requires : goal.put_number-width_at-requires
+put_number-width_at-requires c =
     let all = file_parts (basin_of c.args.head c.args.levels.now c.args.beds.now c.args.leaves.now) in
     record { small = omega arith; room = omega (arith, c.requires.room) }
 
-pub put-number-loose-at-requires : goal.put-number-loose-at-requires
-put-number-loose-at-requires c =
+pub put_number-loose_at-requires : goal.put_number-loose_at-requires
+put_number-loose_at-requires c =
     let all = file_parts (basin_of c.args.head c.args.levels.now c.args.beds.now c.args.leaves.now) in
     record { small = omega arith; room = omega (arith, c.requires.room) }
 
-pub put-number-tree-at-requires : goal.put-number-tree-at-requires
-put-number-tree-at-requires c =
+pub put_number-tree_at-requires : goal.put_number-tree_at-requires
+put_number-tree_at-requires c =
     let all = file_parts (basin_of c.args.head c.args.levels.now c.args.beds.now c.args.leaves.now) in
     record { small = omega arith; room = omega (arith, c.requires.room) }
 
-pub put-node-beds-at-requires : goal.put-node-beds-at-requires
-put-node-beds-at-requires c =
+pub put_node-beds_at-requires : goal.put_node-beds_at-requires
+put_node-beds_at-requires c =
     let all = file_parts (basin_of c.args.head c.args.levels.now c.args.beds.now c.args.leaves.now) in
     record { valid = c.requires.valid; block = record { deep = omega arith; east = omega arith; north = omega arith }; room = omega (arith, c.requires.room) }
 
-pub put-beds-requires : goal.put-beds-requires
-put-beds-requires c =
+pub put_beds-requires : goal.put_beds-requires
+put_beds-requires c =
     let all = file_parts (basin_of c.args.head c.args.levels.now c.args.beds.now c.args.leaves.now) in
     omega (arith, c.requires.room)
 
 pub returns : goal.returns
 returns c =
-    let levels = put c.put-number-width-at.ensures.place c.put-number-width-at.ensures.bytes in
-    let width = put c.put-number-loose-at.ensures.place c.put-number-loose-at.ensures.bytes in
-    let loose = put c.put-number-tree-at.ensures.place c.put-number-tree-at.ensures.bytes in
-    let tree = put c.put-node-beds-at.ensures.place c.put-node-beds-at.ensures.bytes in
-    let beds = put c.put-beds.ensures.place c.put-beds.ensures.bytes in
+    let levels = put c.put_number-width_at.ensures.place c.put_number-width_at.ensures.bytes in
+    let width = put c.put_number-loose_at.ensures.place c.put_number-loose_at.ensures.bytes in
+    let loose = put c.put_number-tree_at.ensures.place c.put_number-tree_at.ensures.bytes in
+    let tree = put c.put_node-beds_at.ensures.place c.put_node-beds_at.ensures.bytes in
+    let beds = put c.put_beds.ensures.place c.put_beds.ensures.bytes in
     (then levels (then width (then loose (then tree beds)))).bytes

@@ -9,36 +9,36 @@ here : (t : ℕ) (c : After-place-here t)
     → Here (basin_of c.args.head c.args.levels.now c.args.beds.now c.args.leaves.now) c.args.height c.args.x c.args.y c.side.result c.place-here.result
 here t c = record { valid = c.requires.valid; lies = c.requires.block; side_is = c.side.ensures.value; place_is = c.place-here.ensures.value }
 
-pub node-length-sw-requires : goal.node-length-sw-requires
-node-length-sw-requires t c =
+pub node_length-sw-requires : goal.node_length-sw-requires
+node_length-sw-requires t c =
     let at = here t (at·node-length-sw-requires t c).After-place-here in (
       omega (arith, high at c.side-half.ensures.value c.if-levels-here.true),
       (c.requires.valid, sw at c.side-half.ensures.value c.if-levels-here.true),
     )
 
-pub node-length-se-requires : goal.node-length-se-requires
-node-length-se-requires t c =
+pub node_length-se-requires : goal.node_length-se-requires
+node_length-se-requires t c =
     let at = here t (at·node-length-se-requires t c).After-place-here in (
       omega (arith, high at c.side-half.ensures.value c.if-levels-here.true),
       (c.requires.valid, se at c.side-half.ensures.value c.if-levels-here.true),
     )
 
-pub node-length-nw-requires : goal.node-length-nw-requires
-node-length-nw-requires t c =
+pub node_length-nw-requires : goal.node_length-nw-requires
+node_length-nw-requires t c =
     let at = here t (at·node-length-nw-requires t c).After-place-here in (
       omega (arith, high at c.side-half.ensures.value c.if-levels-here.true),
       (c.requires.valid, nw at c.side-half.ensures.value c.if-levels-here.true),
     )
 
-pub node-length-ne-requires : goal.node-length-ne-requires
-node-length-ne-requires t c =
+pub node_length-ne-requires : goal.node_length-ne-requires
+node_length-ne-requires t c =
     let at = here t (at·node-length-ne-requires t c).After-place-here in (
       omega (arith, high at c.side-half.ensures.value c.if-levels-here.true),
       (c.requires.valid, ne at c.side-half.ensures.value c.if-levels-here.true),
     )
 
-pub leaf-length-requires : goal.leaf-length-requires
-leaf-length-requires t c = small_here (here t (at·leaf-length-requires t c).After-place-here)
+pub leaf_length-requires : goal.leaf_length-requires
+leaf_length-requires t c = small_here (here t (at·leaf-length-requires t c).After-place-here)
 
 pub returns-then-levels-here : goal.returns-then-levels-here
 returns-then-levels-here t c =
@@ -46,11 +46,11 @@ returns-then-levels-here t c =
     let all = cut_length at c.side-half.ensures.value c.if-levels-here.true in
     let few = few_here at in
     record {
-      value = omega (arith, all, c.node-length-sw.ensures.value, c.node-length-se.ensures.value, c.node-length-nw.ensures.value, c.node-length-ne.ensures.value);
-      most = omega (arith, all, few, c.node-length-sw.ensures.value, c.node-length-se.ensures.value, c.node-length-nw.ensures.value, c.node-length-ne.ensures.value);
+      value = omega (arith, all, c.node_length-sw.ensures.value, c.node_length-se.ensures.value, c.node_length-nw.ensures.value, c.node_length-ne.ensures.value);
+      most = omega (arith, all, few, c.node_length-sw.ensures.value, c.node_length-se.ensures.value, c.node_length-nw.ensures.value, c.node_length-ne.ensures.value);
     }
 
 pub returns-else-levels-here : goal.returns-else-levels-here
 returns-else-levels-here t c =
     let all = leaf_node_length (here t (at·returns-else-levels-here t c).After-place-here) c.if-levels-here.false in
-    record { value = omega (arith, all, c.leaf-length.ensures.value); most = omega (arith, c.leaf-length.ensures.most) }
+    record { value = omega (arith, all, c.leaf_length.ensures.value); most = omega (arith, c.leaf_length.ensures.most) }

@@ -1,5 +1,5 @@
 -- The blocks grow smaller.
 use Rattle.encode.proofs.node.+node_length.Given as goal
 
-abbrev pub decreases-node-length : goal.decreases-node-length
-decreases-node-length l = l.height
+abbrev pub decreases-node_length : goal.decreases-node_length
+decreases-node_length l = l.height

@@ -5,25 +5,25 @@ use Rattle.numbers.specs.Numbers.{number, coded}
 use Rattle.encode.proofs.Ranges.{small}
 use Rattle.encode.proofs.record.leaf_length.Goals as goal
 
-pub number-length-requires : goal.number-length-requires
-number-length-requires c = (small c.args.leaf c.requires).water
+pub number_length-requires : goal.number_length-requires
+number_length-requires c = (small c.args.leaf c.requires).water
 
-pub number-length-requires-2 : goal.number-length-requires-2
-number-length-requires-2 c =
+pub number_length-requires-2 : goal.number_length-requires-2
+number_length-requires-2 c =
     let f : SFits w64 c.args.leaf.east = search rules in
-    rw (c.to-coded.ensures, to_z-of_z w64 c.args.leaf.east f) (small c.args.leaf c.requires).east
+    rw (c.to_coded.ensures, to_z-of_z w64 c.args.leaf.east f) (small c.args.leaf c.requires).east
 
-pub number-length-requires-3 : goal.number-length-requires-3
-number-length-requires-3 c =
+pub number_length-requires-3 : goal.number_length-requires-3
+number_length-requires-3 c =
     let f : SFits w64 c.args.leaf.north = search rules in
-    rw (c.to-coded-2.ensures, to_z-of_z w64 c.args.leaf.north f) (small c.args.leaf c.requires).north
+    rw (c.to_coded-2.ensures, to_z-of_z w64 c.args.leaf.north f) (small c.args.leaf c.requires).north
 
 pub returns : goal.returns
 returns c =
     let f : SFits w64 c.args.leaf.east = search rules in
     let g : SFits w64 c.args.leaf.north = search rules in
-    let east : c.to-coded.result ≡ coded c.args.leaf.east = c.to-coded.ensures ∙ ap coded (to_z-of_z w64 c.args.leaf.east f) in
-    let north : c.to-coded-2.result ≡ coded c.args.leaf.north = c.to-coded-2.ensures ∙ ap coded (to_z-of_z w64 c.args.leaf.north g) in
-    let e = c.number-length-2.ensures.value ∙ ap (λ n. length (number n)) east in
-    let n = c.number-length-3.ensures.value ∙ ap (λ n. length (number n)) north in
+    let east : c.to_coded.result ≡ coded c.args.leaf.east = c.to_coded.ensures ∙ ap coded (to_z-of_z w64 c.args.leaf.east f) in
+    let north : c.to_coded-2.result ≡ coded c.args.leaf.north = c.to_coded-2.ensures ∙ ap coded (to_z-of_z w64 c.args.leaf.north g) in
+    let e = c.number_length-2.ensures.value ∙ ap (λ n. length (number n)) east in
+    let n = c.number_length-3.ensures.value ∙ ap (λ n. length (number n)) north in
     record { value = simp length-append (omega arith); most = omega arith }

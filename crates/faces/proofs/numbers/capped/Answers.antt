@@ -22,7 +22,7 @@ returns g c =
       flow = e.flow;
       push = e.push;
       drift = e.drift;
-      flow-cap = capped_by _ _ _ _ e.flow (caps.flow a b p q) law.low.0;
-      push-cap = capped_by _ _ _ _ e.push (caps.push a b p q) law.low.1;
-      drift-cap = capped_by _ _ _ _ e.drift (caps.drift a b p q) law.low.1;
+      flow_cap = capped_by _ _ _ _ e.flow (caps.flow a b p q) law.low.0;
+      push_cap = capped_by _ _ _ _ e.push (caps.push a b p q) law.low.1;
+      drift_cap = capped_by _ _ _ _ e.drift (caps.drift a b p q) law.low.1;
     }

@@ -18,23 +18,23 @@ returns g c =
     let ff : SFits w64 c.capped-flux.result.flow = search rules in
     let fp : SFits w64 push = search rules in
     let fd : SFits w64 c.capped-flux.result.drift = search rules in
-    let f1 : SFits w64 c.excess.result = record { sfits = c.excess.type-inv } in
-    let f2 : SFits w64 c.excess-2.result = record { sfits = c.excess-2.type-inv } in
+    let f1 : SFits w64 c.excess.result = record { sfits = c.excess.type_inv } in
+    let f2 : SFits w64 c.excess-2.result = record { sfits = c.excess-2.type_inv } in
     let d1 = back _ _ f1 (c.excess.ensures.value ∙ ap (λ (z : ℤ). z -ℤ pos (pressure c.args.one.h)) (back _ _ fp a.push)) in
     let d2 = back _ _ f2 (c.excess-2.ensures.value ∙ ap (λ (z : ℤ). z -ℤ pos (pressure c.args.two.h)) (back _ _ fp a.push)) in
-    let t1 : SFits w64 c.scaled.result = record { sfits = c.scaled.type-inv } in
-    let t2 : SFits w64 c.scaled-2.result = record { sfits = c.scaled-2.type-inv } in
-    let t3 : SFits w64 c.scaled-3.result = record { sfits = c.scaled-3.type-inv } in
-    let t4 : SFits w64 c.scaled-4.result = record { sfits = c.scaled-4.type-inv } in
+    let t1 : SFits w64 c.scaled.result = record { sfits = c.scaled.type_inv } in
+    let t2 : SFits w64 c.scaled-2.result = record { sfits = c.scaled-2.type_inv } in
+    let t3 : SFits w64 c.scaled-3.result = record { sfits = c.scaled-3.type_inv } in
+    let t4 : SFits w64 c.scaled-4.result = record { sfits = c.scaled-4.type_inv } in
     record {
       wish = back _ _ t1 (c.scaled.ensures.value ∙ ap to (back _ _ ff a.flow));
       fall = back _ _ t2 (c.scaled-2.ensures.value ∙ ap to d1);
       rise = back _ _ t3 (c.scaled-3.ensures.value ∙ ap to d2);
       drift = back _ _ t4 (c.scaled-4.ensures.value ∙ ap to (back _ _ fd a.drift));
       small = record {
-        wish_small = scaled_within _ _ _ 153600000 t1 (back _ _ ff refl) c.scaled.ensures.small (omega (arith, a.flow-cap));
+        wish_small = scaled_within _ _ _ 153600000 t1 (back _ _ ff refl) c.scaled.ensures.small (omega (arith, a.flow_cap));
         fall_small = scaled_within _ _ _ 3840000000000 t2 (back _ _ f1 refl) c.scaled-2.ensures.small (omega (arith, c.excess.ensures.small));
         rise_small = scaled_within _ _ _ 3840000000000 t3 (back _ _ f2 refl) c.scaled-3.ensures.small (omega (arith, c.excess-2.ensures.small));
-        drift_small = scaled_within _ _ _ 3840000000000 t4 (back _ _ fd refl) c.scaled-4.ensures.small (omega (arith, a.drift-cap));
+        drift_small = scaled_within _ _ _ 3840000000000 t4 (back _ _ fd refl) c.scaled-4.ensures.small (omega (arith, a.drift_cap));
       };
     }

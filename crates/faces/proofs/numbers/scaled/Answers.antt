@@ -10,8 +10,8 @@ use Rattle.faces.proofs.numbers.scaled.Goals as goal
 product_within : (z : ℤ) (e T : ℕ) → nat_abs z ≤ 30000000000000 → e ≤ 64 → T ≤ 2000 → nat_abs (z *ℤ pos (e * T)) ≤ 3840000000000000000
 product_within z e T small short brief = mul_within z (pos (e * T)) 30000000000000 128000 small (mul-le-mul short brief)
 
-pub overflow-mul-result-2 : goal.overflow-mul-result-2
-overflow-mul-result-2 c =
+pub overflow_mul-result-2 : goal.overflow_mul-result-2
+overflow_mul-result-2 c =
     let z = c.args.amount in
     let e = c.args.length in
     let T = c.args.pace.time in
@@ -21,8 +21,8 @@ overflow-mul-result-2 c =
     let k = product_within z e T c.requires.amount c.requires.length c.args.pace.in_range.1 in
     simp (to_z-of_z, to_z_pos) (fits (z *ℤ pos (e * T)) (omega (arith, k)))
 
-pub nonzero-div-result : goal.nonzero-div-result
-nonzero-div-result c =
+pub nonzero_div-result : goal.nonzero_div-result
+nonzero_div-result c =
     let z = c.args.amount in
     let e = c.args.length in
     let T = c.args.pace.time in

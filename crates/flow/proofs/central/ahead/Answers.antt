@@ -25,8 +25,8 @@ returns c =
     let x = speed one.u c.wave.result (wave one.h) one.in_range.1 c.wave.ensures.small c.wave.ensures.value in
     let y = speed two.u c.wave-2.result (wave two.h) two.in_range.1 c.wave-2.ensures.small c.wave-2.ensures.value in
     let m : c.max-fastest.result ≡ int_max (one.u +ℤ wave one.h) (two.u +ℤ wave two.h) = rw (x, y) at c.max-fastest.ensures.value in
-    let fm : SFits w64 c.max-fastest.result = record { sfits = c.max-fastest.type-inv } in
-    let fr : SFits w64 c.max.result = record { sfits = c.max.type-inv } in
+    let fm : SFits w64 c.max-fastest.result = record { sfits = c.max-fastest.type_inv } in
+    let fr : SFits w64 c.max.result = record { sfits = c.max.type_inv } in
     let e : to_z w64 (of_z w64 c.max.result) ≡ ahead (state_of one) (state_of two) =
     largest (one.u +ℤ wave one.h) (two.u +ℤ wave two.h) c.max-fastest.result c.max.result fm fr m c.max.ensures.value in
     let k = ahead_within (state_of one) (state_of two) (fine_of one) (fine_of two) in

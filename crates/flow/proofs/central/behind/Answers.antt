@@ -25,8 +25,8 @@ returns c =
     let x = speed one.u c.wave.result (wave one.h) one.in_range.1 c.wave.ensures.small c.wave.ensures.value in
     let y = speed two.u c.wave-2.result (wave two.h) two.in_range.1 c.wave-2.ensures.small c.wave-2.ensures.value in
     let m : c.min-fastest.result ≡ int_min (one.u -ℤ wave one.h) (two.u -ℤ wave two.h) = rw (x, y) at c.min-fastest.ensures.value in
-    let fm : SFits w64 c.min-fastest.result = record { sfits = c.min-fastest.type-inv } in
-    let fr : SFits w64 c.min.result = record { sfits = c.min.type-inv } in
+    let fm : SFits w64 c.min-fastest.result = record { sfits = c.min-fastest.type_inv } in
+    let fr : SFits w64 c.min.result = record { sfits = c.min.type_inv } in
     let e : to_z w64 (of_z w64 c.min.result) ≡ behind (state_of one) (state_of two) =
     smallest (one.u -ℤ wave one.h) (two.u -ℤ wave two.h) c.min-fastest.result c.min.result fm fr m c.min.ensures.value in
     let k = behind_within (state_of one) (state_of two) (fine_of one) (fine_of two) in

@@ -13,10 +13,10 @@ nonzero (negsuc n) h l = omega arith
 
 module _ (c : goal.After-spread) where
   weighed_fits : SFits w64 c.weighed.result
-  weighed_fits = record { sfits = c.weighed.type-inv }
+  weighed_fits = record { sfits = c.weighed.type_inv }
 
   spread_fits : SFits w64 c.spread.result
-  spread_fits = record { sfits = c.spread.type-inv }
+  spread_fits = record { sfits = c.spread.type_inv }
 
   dividend_within : nat_abs (c.weighed.result +ℤ c.spread.result) ≤ 860000000000000000
   dividend_within = omega (arith, abs_add c.weighed.result c.spread.result, c.weighed.ensures.small, c.spread.ensures.small)
@@ -38,8 +38,8 @@ module _ (c : goal.After-spread) where
       fits (quot_z (c.weighed.result +ℤ c.spread.result) (divisor c.args.a c.args.b))
       (omega (arith, quot_within (c.weighed.result +ℤ c.spread.result) (divisor c.args.a c.args.b) 860000000000000000 dividend_within))
 
-pub nonzero-div-result : goal.nonzero-div-result
-nonzero-div-result c =
+pub nonzero_div-result : goal.nonzero_div-result
+nonzero_div-result c =
     let fa = c.ranges.a in
     let fb = c.ranges.b in
     let fw = weighed_fits c in

@@ -25,8 +25,8 @@ module _ (c : goal.Start) where
   product_fits : SFits w64 (c.args.a *ℤ c.args.b *ℤ (c.args.u2 -ℤ c.args.u1))
   product_fits = fits (c.args.a *ℤ c.args.b *ℤ (c.args.u2 -ℤ c.args.u1)) (omega (arith, product_within))
 
-pub overflow-mul-result-2 : goal.overflow-mul-result-2
-overflow-mul-result-2 c =
+pub overflow_mul-result-2 : goal.overflow_mul-result-2
+overflow_mul-result-2 c =
     let fa = c.ranges.a in
     let fb = c.ranges.b in
     let f1 = c.ranges.u1 in

@@ -21,20 +21,20 @@ module _ (c : goal.Start) where
   difference_fits : SFits w64 (c.args.a *ℤ c.args.f1 -ℤ c.args.b *ℤ c.args.f2)
   difference_fits = fits (c.args.a *ℤ c.args.f1 -ℤ c.args.b *ℤ c.args.f2) (omega (arith, difference_within))
 
-pub overflow-mul-result : goal.overflow-mul-result
-overflow-mul-result c =
+pub overflow_mul-result : goal.overflow_mul-result
+overflow_mul-result c =
     let fa = c.ranges.a in
     let f1 = c.ranges.f1 in
     simp to_z-of_z (one_fits c)
 
-pub overflow-mul-result-2 : goal.overflow-mul-result-2
-overflow-mul-result-2 c =
+pub overflow_mul-result-2 : goal.overflow_mul-result-2
+overflow_mul-result-2 c =
     let fb = c.ranges.b in
     let f2 = c.ranges.f2 in
     simp to_z-of_z (two_fits c)
 
-pub overflow-sub-result : goal.overflow-sub-result
-overflow-sub-result c =
+pub overflow_sub-result : goal.overflow_sub-result
+overflow_sub-result c =
     let fa = c.ranges.a in
     let fb = c.ranges.b in
     let f1 = c.ranges.f1 in

@@ -6,8 +6,8 @@ use Rattle.looks.proofs.surface.surface_at.Goals as goal
 pub bounds-levels-here : goal.bounds-levels-here
 bounds-levels-here c = omega (arith, c.requires.valid.full.levels, ap (λ k. k * k) c.side-n.ensures.value)
 
-pub block-beds-ground-requires : goal.block-beds-ground-requires
-block-beds-ground-requires c =
+pub block_beds-ground-requires : goal.block_beds-ground-requires
+block_beds-ground-requires c =
     let L = c.args.head.levels in
     let n = c.side-n.ensures.value in
     let p = c.place-here.ensures.value ∙ ap (λ k. c.args.y * k + c.args.x) n in
@@ -24,10 +24,10 @@ block-beds-ground-requires c =
 pub bounds-leaves-here : goal.bounds-leaves-here
 bounds-leaves-here c = omega (arith, c.requires.valid.full.leaves, ap (λ k. k * k) c.side-n.ensures.value)
 
-pub nonzero-div-result : goal.nonzero-div-result
-nonzero-div-result c = mul-pos c.side-s.ensures.least c.side-s.ensures.least
+pub nonzero_div-result : goal.nonzero_div-result
+nonzero_div-result c = mul-pos c.side-s.ensures.least c.side-s.ensures.least
 
 pub returns : goal.returns
 returns c =
     surface_is (basin_of c.args.head c.args.levels.now c.args.beds.now c.args.leaves.now) c.args.x c.args.y _ _ _ _
-    c.side-n.ensures.value c.place-here.ensures.value c.side-s.ensures.value c.block-beds-ground.ensures.value
+    c.side-n.ensures.value c.place-here.ensures.value c.side-s.ensures.value c.block_beds-ground.ensures.value

@@ -4,19 +4,19 @@ use Rattle.basin.specs.Basins.{basin_of}
 use Rattle.basin.proofs.Sizes.{area_small}
 use Rattle.looks.proofs.Counted.{corner_more, other_more, all_counted, deep_at}
 use Rattle.looks.proofs.total.all_water.Goals as goal
-use Rattle.looks.proofs.total.all_water.Goals.{then-is-corner, else-is-corner}
+use Rattle.looks.proofs.total.all_water.Goals.{then-is_corner, else-is_corner}
 
-pub overflow-sub-head : goal.overflow-sub-head
-overflow-sub-head c = deep_at _ c.requires c.loop-i.i (omega arith)
+pub overflow_sub-head : goal.overflow_sub-head
+overflow_sub-head c = deep_at _ c.requires c.loop-i.i (omega arith)
 
 pub loop-i-preserved : goal.loop-i-preserved
 loop-i-preserved c =
     let b = basin_of c.args.head c.args.levels.now c.args.beds.now c.args.leaves.now in
     let n = c.side-n.ensures.value in
     let s = c.side-s.ensures.value in
-    elim c.if-is-corner.branch [
-      | then-is-corner w ↦ (w.sum-is ∙ corner_more b _ _ _ n s _ w.if-is-corner.ensures c.loop-i.invariant.0, omega arith)
-      | else-is-corner w ↦ (w.sum-is ∙ other_more b _ _ _ n s _ w.if-is-corner.ensures c.loop-i.invariant.0, omega arith)
+    elim c.if-is_corner.branch [
+      | then-is_corner w ↦ (w.sum-is ∙ corner_more b _ _ _ n s _ w.if-is_corner.ensures c.loop-i.invariant.0, omega arith)
+      | else-is_corner w ↦ (w.sum-is ∙ other_more b _ _ _ n s _ w.if-is_corner.ensures c.loop-i.invariant.0, omega arith)
     ]
 
 pub returns : goal.returns

@@ -5,11 +5,11 @@ use Rattle.basin.specs.Basins.{basin_of}
 use Rattle.looks.proofs.Answered.{total_refused, total_granted}
 use Rattle.looks.proofs.total.total.Goals as goal
 
-pub returns-in-err-validate : goal.returns-in-err-validate
-returns-in-err-validate c =
-    let p = err_from_is_err_and c.from-residual.result c.from-residual.ensures.1 in
-    rw (p.1, p.2) (total_refused (basin_of c.args.head c.args.levels.now c.args.beds.now c.args.leaves.now) _ c.in-err-validate.ensures.verdict)
+pub returns-in_err-validate : goal.returns-in_err-validate
+returns-in_err-validate c =
+    let p = err_from_is_err_and c.from_residual.result c.from_residual.ensures.1 in
+    rw (p.1, p.2) (total_refused (basin_of c.args.head c.args.levels.now c.args.beds.now c.args.leaves.now) _ c.in_err-validate.ensures.verdict)
 
 pub returns : goal.returns
 returns c =
-    ap (λ sum. Ok (sum + c.args.head.loose)) c.all_water.ensures.value ∙ total_granted _ c.in-ok-validate.ensures.verdict
+    ap (λ sum. Ok (sum + c.args.head.loose)) c.all_water.ensures.value ∙ total_granted _ c.in_ok-validate.ensures.verdict

@@ -1,8 +1,8 @@
 use Rattle.std.proofs.Common.{◌+◌, ◌*◌}
 use Rattle.nodes.proofs.node.+read_node_read_quarters.Given as goal
 
-abbrev pub decreases-read-node : goal.decreases-read-node
-decreases-read-node l = 2 * l.spot.height
+abbrev pub decreases-read_node : goal.decreases-read_node
+decreases-read_node l = 2 * l.spot.height
 
-abbrev pub decreases-read-quarters : goal.decreases-read-quarters
-decreases-read-quarters l = 2 * l.spot.height + 1
+abbrev pub decreases-read_quarters : goal.decreases-read_quarters
+decreases-read_quarters l = 2 * l.spot.height + 1

@@ -9,29 +9,29 @@ returns-then-here-bytes c = ended (6 - c.loop-k.k) _ _ _ _ _ (omega arith) (omeg
 pub returns-then-k-gt0 : goal.returns-then-k-gt0
 returns-then-k-gt0 c = padded (6 - c.loop-k.k) _ _ _ _ _ (omega arith) (omega arith) (omega arith) (omega arith) ∙ sym c.loop-k.invariant.0
 
-pub overflow-mul-result : goal.overflow-mul-result
-overflow-mul-result c = omega (arith, share c.loop-k.k c.loop-k.unit (get_or c.args.bytes.now c.loop-k.here 0) (omega arith) c.loop-k.invariant.2 (omega arith))
+pub overflow_mul-result : goal.overflow_mul-result
+overflow_mul-result c = omega (arith, share c.loop-k.k c.loop-k.unit (get_or c.args.bytes.now c.loop-k.here 0) (omega arith) c.loop-k.invariant.2 (omega arith))
 
-pub overflow-add-result : goal.overflow-add-result
-overflow-add-result c = omega (arith, light c.loop-k.k (omega arith), share c.loop-k.k c.loop-k.unit (get_or c.args.bytes.now c.loop-k.here 0) (omega arith) c.loop-k.invariant.2 (omega arith))
+pub overflow_add-result : goal.overflow_add-result
+overflow_add-result c = omega (arith, light c.loop-k.k (omega arith), share c.loop-k.k c.loop-k.unit (get_or c.args.bytes.now c.loop-k.here 0) (omega arith) c.loop-k.invariant.2 (omega arith))
 
 pub returns-then-byte-lt-MORE : goal.returns-then-byte-lt-MORE
 returns-then-byte-lt-MORE c = done (6 - c.loop-k.k) _ _ _ _ _ (omega arith) (omega arith) (omega arith) (λ z l. elim c.else-byte-eq0.either [ inl w ↦ omega arith | inr w ↦ w z ]) ∙ sym c.loop-k.invariant.0
 
-pub overflow-mul-value : goal.overflow-mul-value
-overflow-mul-value c = omega (arith, share c.loop-k.k c.loop-k.unit (get_or c.args.bytes.now c.loop-k.here 0 - 128) (omega arith) c.loop-k.invariant.2 (omega arith))
+pub overflow_mul-value : goal.overflow_mul-value
+overflow_mul-value c = omega (arith, share c.loop-k.k c.loop-k.unit (get_or c.args.bytes.now c.loop-k.here 0 - 128) (omega arith) c.loop-k.invariant.2 (omega arith))
 
-pub overflow-add-value : goal.overflow-add-value
-overflow-add-value c = omega (arith, light c.loop-k.k (omega arith), share c.loop-k.k c.loop-k.unit (get_or c.args.bytes.now c.loop-k.here 0 - 128) (omega arith) c.loop-k.invariant.2 (omega arith))
+pub overflow_add-value : goal.overflow_add-value
+overflow_add-value c = omega (arith, light c.loop-k.k (omega arith), share c.loop-k.k c.loop-k.unit (get_or c.args.bytes.now c.loop-k.here 0 - 128) (omega arith) c.loop-k.invariant.2 (omega arith))
 
-pub overflow-mul-unit : goal.overflow-mul-unit
-overflow-mul-unit c = omega (arith, light c.loop-k.k (omega arith))
+pub overflow_mul-unit : goal.overflow_mul-unit
+overflow_mul-unit c = omega (arith, light c.loop-k.k (omega arith))
 
 pub loop-k-preserved : goal.loop-k-preserved
 loop-k-preserved c =
     let e : 6 - (c.loop-k.k + 1) ≡ (6 - c.loop-k.k) - 1 = omega arith in (
       c.loop-k.invariant.0 ∙ rw e (more (6 - c.loop-k.k) _ _ _ _ _ (omega arith) (omega arith) (omega arith)),
-      kept_below _ _ _ c.loop-k.invariant.1 (omega (arith, c.type-inv.bytes c.loop-k.here)),
+      kept_below _ _ _ c.loop-k.invariant.1 (omega (arith, c.type_inv.bytes c.loop-k.here)),
       rw (add-one, pow-suc) (ap (λ n. n * 128) c.loop-k.invariant.2),
       omega arith,
     )

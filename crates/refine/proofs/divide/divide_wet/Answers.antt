@@ -3,11 +3,11 @@ use Rattle.std.proofs.Common.{sym, ◌∙◌}
 use Rattle.refine.proofs.Divided.{child_small, small_shares, wet_bare, wet_full, wet_over, wet_divided}
 use Rattle.refine.proofs.divide.divide_wet.Goals as goal
 
-pub returns-then-leaves-bare : goal.returns-then-leaves-bare
-returns-then-leaves-bare c =
+pub returns-then-leaves_bare : goal.returns-then-leaves_bare
+returns-then-leaves_bare c =
     record {
-      value = wet_bare c.args.spot c.args.beds.now c.args.leaf c.args.loose _ _ c.block-beds-ground.ensures.value c.shares-shares.ensures
-          (sym c.leaves-bare.ensures ∙ c.if-leaves-bare.true);
+      value = wet_bare c.args.spot c.args.beds.now c.args.leaf c.args.loose _ _ c.block_beds-ground.ensures.value c.shares-shares.ensures
+          (sym c.leaves_bare.ensures ∙ c.if-leaves_bare.true);
       few = tt;
     }
 
@@ -17,16 +17,16 @@ overfills-requires c = child_small c.args.spot _ _ c.requires.fits
 pub returns-then-overfills : goal.returns-then-overfills
 returns-then-overfills c =
     record {
-      value = wet_full c.args.spot c.args.beds.now c.args.leaf c.args.loose _ _ c.block-beds-ground.ensures.value c.shares-shares.ensures
-          (sym c.leaves-bare.ensures ∙ c.if-leaves-bare.false) (sym c.overfills.ensures ∙ c.if-overfills.true);
+      value = wet_full c.args.spot c.args.beds.now c.args.leaf c.args.loose _ _ c.block_beds-ground.ensures.value c.shares-shares.ensures
+          (sym c.leaves_bare.ensures ∙ c.if-leaves_bare.false) (sym c.overfills.ensures ∙ c.if-overfills.true);
       few = tt;
     }
 
 pub returns-then-loose-remainder-gt1000000 : goal.returns-then-loose-remainder-gt1000000
 returns-then-loose-remainder-gt1000000 c =
     record {
-      value = wet_over c.args.spot c.args.beds.now c.args.leaf c.args.loose _ _ c.block-beds-ground.ensures.value c.shares-shares.ensures
-          (sym c.leaves-bare.ensures ∙ c.if-leaves-bare.false) (sym c.overfills.ensures ∙ c.if-overfills.false)
+      value = wet_over c.args.spot c.args.beds.now c.args.leaf c.args.loose _ _ c.block_beds-ground.ensures.value c.shares-shares.ensures
+          (sym c.leaves_bare.ensures ∙ c.if-leaves_bare.false) (sym c.overfills.ensures ∙ c.if-overfills.false)
           c.if-loose-remainder-gt1000000.true;
       few = tt;
     }
@@ -39,8 +39,8 @@ children-requires c =
 pub returns : goal.returns
 returns c =
     record {
-      value = wet_divided c.args.spot c.args.beds.now c.args.leaf c.args.loose _ _ c.block-beds-ground.ensures.value c.shares-shares.ensures
-          (sym c.leaves-bare.ensures ∙ c.if-leaves-bare.false) (sym c.overfills.ensures ∙ c.if-overfills.false)
+      value = wet_divided c.args.spot c.args.beds.now c.args.leaf c.args.loose _ _ c.block_beds-ground.ensures.value c.shares-shares.ensures
+          (sym c.leaves_bare.ensures ∙ c.if-leaves_bare.false) (sym c.overfills.ensures ∙ c.if-overfills.false)
           c.if-loose-remainder-gt1000000.false _ c.children.ensures;
       few = c.if-loose-remainder-gt1000000.false;
     }

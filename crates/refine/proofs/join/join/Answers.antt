@@ -2,15 +2,15 @@ use Rattle.std.proofs.Common.{mul-pos, arith}
 use Rattle.refine.proofs.Divided.{block_fits}
 use Rattle.refine.proofs.join.join.Goals as goal
 
-pub fill-block-requires : goal.fill-block-requires
-fill-block-requires c =
+pub fill_block-requires : goal.fill_block-requires
+fill_block-requires c =
     let s = c.args.spot in
     omega (arith, c.place-corner.ensures.value, block_fits s.n _ s.west s.south s.side c.requires.fits.eastward c.requires.fits.northward c.requires.full)
 
-pub fill-block-requires-2 : goal.fill-block-requires-2
-fill-block-requires-2 c =
+pub fill_block-requires-2 : goal.fill_block-requires-2
+fill_block-requires-2 c =
     let s = c.args.spot in
     omega (arith, c.place-corner.ensures.value, block_fits s.n _ s.west s.south s.side c.requires.fits.eastward c.requires.fits.northward c.requires.fits.all_leaves)
 
-pub nonzero-div-result : goal.nonzero-div-result
-nonzero-div-result c = mul-pos c.requires.fits.some c.requires.fits.some
+pub nonzero_div-result : goal.nonzero_div-result
+nonzero_div-result c = mul-pos c.requires.fits.some c.requires.fits.some

@@ -2,8 +2,8 @@ use Rattle.std.proofs.Common.{◌≡◌, ◌*◌, ◌/◌, ◌≤◌, sym, mul-l
 use Rattle.refine.proofs.siblings.twin.Goals as goal
 
 -- an odd block is not the first
-pub overflow-sub-result : goal.overflow-sub-result
-overflow-sub-result c =
+pub overflow_sub-result : goal.overflow_sub-result
+overflow_sub-result c =
     let x = c.args.x in
     let s = c.args.side in
     let one : 1 ≤ c.args.x / c.args.side = omega arith in

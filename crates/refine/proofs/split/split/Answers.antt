@@ -7,67 +7,67 @@ use Rattle.refine.proofs.Windows.{window_fits, ring_fits}
 use Rattle.refine.proofs.Splitting.{split_refused, split_bottom, split_unbalanced, split_flooded, split_undivided, split_granted}
 use Rattle.refine.proofs.Spotted.{levels_full, two_wide}
 use Rattle.refine.proofs.split.split.Goals as goal
-use Rattle.refine.proofs.split.split.Goals.{else-leaf-eq0-via-then-leaf-eq0+else-not-stays-dry, else-leaf-eq0-via-else-leaf-eq0}
+use Rattle.refine.proofs.split.split.Goals.{else-leaf-eq0-via-then-leaf-eq0+else-not-stays_dry, else-leaf-eq0-via-else-leaf-eq0}
 
-pub returns-in-err-spot : goal.returns-in-err-spot
-returns-in-err-spot c =
-    let p = err_from_is_err_and c.from-residual.result c.from-residual.ensures.1 in
-    rw (p.1, p.2) (split_refused (basin_of c.args.head.now c.args.levels.now c.args.beds.now c.args.leaves.now) _ _ _ c.in-err-spot.ensures)
+pub returns-in_err-spot : goal.returns-in_err-spot
+returns-in_err-spot c =
+    let p = err_from_is_err_and c.from_residual.result c.from_residual.ensures.1 in
+    rw (p.1, p.2) (split_refused (basin_of c.args.head.now c.args.levels.now c.args.beds.now c.args.leaves.now) _ _ _ c.in_err-spot.ensures)
 
 pub returns-then-spot-head : goal.returns-then-spot-head
 returns-then-spot-head c =
     split_bottom (basin_of c.args.head.now c.args.levels.now c.args.beds.now c.args.leaves.now) _ _ _
-    c.in-ok-spot.ensures c.if-spot-head.true
+    c.in_ok-spot.ensures c.if-spot-head.true
 
-pub block-window-block-requires : goal.block-window-block-requires
-block-window-block-requires c =
-    let f = located_fits (basin_of c.args.head.now c.args.levels.now c.args.beds.now c.args.leaves.now) _ _ _ c.in-ok-spot.ensures in
+pub block_window-block-requires : goal.block_window-block-requires
+block_window-block-requires c =
+    let f = located_fits (basin_of c.args.head.now c.args.levels.now c.args.beds.now c.args.leaves.now) _ _ _ c.in_ok-spot.ensures in
     record { east = omega (arith, f.eastward, f.few); north = omega (arith, f.northward, f.few) }
 
-pub ring-window-ring-requires : goal.ring-window-ring-requires
-ring-window-ring-requires c =
-    let f = located_fits (basin_of c.args.head.now c.args.levels.now c.args.beds.now c.args.leaves.now) _ _ _ c.in-ok-spot.ensures in
-    record { few = f.few; east = rw c.block-window-block.ensures f.eastward; north = rw c.block-window-block.ensures f.northward }
+pub ring_window-ring-requires : goal.ring_window-ring-requires
+ring_window-ring-requires c =
+    let f = located_fits (basin_of c.args.head.now c.args.levels.now c.args.beds.now c.args.leaves.now) _ _ _ c.in_ok-spot.ensures in
+    record { few = f.few; east = rw c.block_window-block.ensures f.eastward; north = rw c.block_window-block.ensures f.northward }
 
-pub all-between-requires : goal.all-between-requires
-all-between-requires c =
+pub all_between-requires : goal.all_between-requires
+all_between-requires c =
     let b = basin_of c.args.head.now c.args.levels.now c.args.beds.now c.args.leaves.now in
-    let l = c.in-ok-spot.ensures in
-    let f = located_fits (basin_of c.args.head.now c.args.levels.now c.args.beds.now c.args.leaves.now) _ _ _ c.in-ok-spot.ensures in
-    let w = ring_fits _ _ _ c.ring-window-ring.ensures (window_fits c.in-ok-spot.spot _ c.block-window-block.ensures f.eastward f.northward) in
+    let l = c.in_ok-spot.ensures in
+    let f = located_fits (basin_of c.args.head.now c.args.levels.now c.args.beds.now c.args.leaves.now) _ _ _ c.in_ok-spot.ensures in
+    let w = ring_fits _ _ _ c.ring_window-ring.ensures (window_fits c.in_ok-spot.spot _ c.block_window-block.ensures f.eastward f.northward) in
     record { few = f.few; full = levels_full b _ _ _ l; east = w.east; north = w.north; west = w.west }
 
-pub returns-then-not-all-between : goal.returns-then-not-all-between
-returns-then-not-all-between c =
+pub returns-then-not-all_between : goal.returns-then-not-all_between
+returns-then-not-all_between c =
     split_unbalanced (basin_of c.args.head.now c.args.levels.now c.args.beds.now c.args.leaves.now) _ _ _
-    c.in-ok-spot.ensures c.if-spot-head.false _ _ c.block-window-block.ensures c.ring-window-ring.ensures _ c.all-between.ensures
-    c.if-not-all-between.true
+    c.in_ok-spot.ensures c.if-spot-head.false _ _ c.block_window-block.ensures c.ring_window-ring.ensures _ c.all_between.ensures
+    c.if-not-all_between.true
 
 pub slice-copy-out·leaf : goal.slice-copy-out·leaf
 slice-copy-out·leaf c =
-    let f = located_fits (basin_of c.args.head.now c.args.levels.now c.args.beds.now c.args.leaves.now) _ _ _ c.in-ok-spot.ensures in
+    let f = located_fits (basin_of c.args.head.now c.args.levels.now c.args.beds.now c.args.leaves.now) _ _ _ c.in_ok-spot.ensures in
     omega (arith, f.inside, f.all_leaves)
 
-pub stays-dry-requires : goal.stays-dry-requires
-stays-dry-requires c =
-    let l = c.in-ok-spot.ensures in
+pub stays_dry-requires : goal.stays_dry-requires
+stays_dry-requires c =
+    let l = c.in_ok-spot.ensures in
     let f = located_fits (basin_of c.args.head.now c.args.levels.now c.args.beds.now c.args.leaves.now) _ _ _ l in
     record {
       valid = l.valid;
       deep = omega (arith, c.if-spot-head.false);
-      east = rw c.block-window-block.ensures (omega (arith, f.eastward, l.n_is));
-      north = rw c.block-window-block.ensures (omega (arith, f.northward, l.n_is));
+      east = rw c.block_window-block.ensures (omega (arith, f.eastward, l.n_is));
+      north = rw c.block_window-block.ensures (omega (arith, f.northward, l.n_is));
     }
 
-pub returns-then-not-stays-dry : goal.returns-then-not-stays-dry
-returns-then-not-stays-dry c =
+pub returns-then-not-stays_dry : goal.returns-then-not-stays_dry
+returns-then-not-stays_dry c =
     split_flooded (basin_of c.args.head.now c.args.levels.now c.args.beds.now c.args.leaves.now) _ _ _
-    c.in-ok-spot.ensures c.if-spot-head.false _ _ c.block-window-block.ensures c.ring-window-ring.ensures _ c.all-between.ensures
-    c.if-not-all-between.false _ c.stays-dry.ensures c.if-leaf-eq0.true c.if-not-stays-dry.true
+    c.in_ok-spot.ensures c.if-spot-head.false _ _ c.block_window-block.ensures c.ring_window-ring.ensures _ c.all_between.ensures
+    c.if-not-all_between.false _ c.stays_dry.ensures c.if-leaf-eq0.true c.if-not-stays_dry.true
 
 pub divide-requires : goal.divide-requires
 divide-requires c =
-    let f = located_fits (basin_of c.args.head.now c.args.levels.now c.args.beds.now c.args.leaves.now) _ _ _ c.in-ok-spot.ensures in
+    let f = located_fits (basin_of c.args.head.now c.args.levels.now c.args.beds.now c.args.leaves.now) _ _ _ c.in_ok-spot.ensures in
     record {
       fits = record {
         few = f.few;
@@ -78,24 +78,24 @@ divide-requires c =
         all_beds = f.all_beds;
         all_leaves = f.all_beds;
       };
-      little = c.in-ok-spot.ensures.valid.head.loose;
+      little = c.in_ok-spot.ensures.valid.head.loose;
     }
 
-pub returns-in-err-division : goal.returns-in-err-division
-returns-in-err-division c =
-    let p = err_from_is_err_and c.from-residual-in-err-division.result c.from-residual-in-err-division.ensures.1 in
+pub returns-in_err-division : goal.returns-in_err-division
+returns-in_err-division c =
+    let p = err_from_is_err_and c.from_residual-in_err-division.result c.from_residual-in_err-division.ensures.1 in
     rw (p.1, p.2) (split_undivided (basin_of c.args.head.now c.args.levels.now c.args.beds.now c.args.leaves.now) _ _ _
-    c.in-ok-spot.ensures c.if-spot-head.false _ _ c.block-window-block.ensures c.ring-window-ring.ensures _ c.all-between.ensures
-    c.if-not-all-between.false
+    c.in_ok-spot.ensures c.if-spot-head.false _ _ c.block_window-block.ensures c.ring_window-ring.ensures _ c.all_between.ensures
+    c.if-not-all_between.false
     (elim c.else-leaf-eq0.branch [
-      | else-leaf-eq0-via-then-leaf-eq0+else-not-stays-dry w ↦ inr (w.stays-dry.result, w.stays-dry.ensures, w.if-not-stays-dry.false)
+      | else-leaf-eq0-via-then-leaf-eq0+else-not-stays_dry w ↦ inr (w.stays_dry.result, w.stays_dry.ensures, w.if-not-stays_dry.false)
       | else-leaf-eq0-via-else-leaf-eq0 w ↦ inl w.if-leaf-eq0.false
     ])
-    _ c.in-err-division.ensures.value)
+    _ c.in_err-division.ensures.value)
 
 pub cut-requires : goal.cut-requires
 cut-requires c =
-    let l = c.in-ok-spot.ensures in
+    let l = c.in_ok-spot.ensures in
     let b = basin_of c.args.head.now c.args.levels.now c.args.beds.now c.args.leaves.now in
     let f = located_fits (basin_of c.args.head.now c.args.levels.now c.args.beds.now c.args.leaves.now) _ _ _ l in
     record {
@@ -112,21 +112,21 @@ cut-requires c =
       few = omega (arith, c.if-spot-head.false, l.valid.head.levels);
     }
 
-pub overflow-add-head : goal.overflow-add-head
-overflow-add-head c = record { fits = omega (arith, c.in-ok-division.ensures.few) }
+pub overflow_add-head : goal.overflow_add-head
+overflow_add-head c = record { fits = omega (arith, c.in_ok-division.ensures.few) }
 
-pub invariant-of-head : goal.invariant-of-head
-invariant-of-head c =
-    let h = c.in-ok-spot.ensures.valid.head in
-    ((h.levels, h.width_least, h.width_most, c.in-ok-division.ensures.few), tt)
+pub invariant_of-head : goal.invariant_of-head
+invariant_of-head c =
+    let h = c.in_ok-spot.ensures.valid.head in
+    ((h.levels, h.width_least, h.width_most, c.in_ok-division.ensures.few), tt)
 
 pub returns : goal.returns
 returns c =
     split_granted (basin_of c.args.head.now c.args.levels.now c.args.beds.now c.args.leaves.now) _ _ _
-    c.in-ok-spot.ensures c.if-spot-head.false _ _ c.block-window-block.ensures c.ring-window-ring.ensures _ c.all-between.ensures
-    c.if-not-all-between.false
+    c.in_ok-spot.ensures c.if-spot-head.false _ _ c.block_window-block.ensures c.ring_window-ring.ensures _ c.all_between.ensures
+    c.if-not-all_between.false
     (elim c.else-leaf-eq0.branch [
-      | else-leaf-eq0-via-then-leaf-eq0+else-not-stays-dry w ↦ inr (w.stays-dry.result, w.stays-dry.ensures, w.if-not-stays-dry.false)
+      | else-leaf-eq0-via-then-leaf-eq0+else-not-stays_dry w ↦ inr (w.stays_dry.result, w.stays_dry.ensures, w.if-not-stays_dry.false)
       | else-leaf-eq0-via-else-leaf-eq0 w ↦ inl w.if-leaf-eq0.false
     ])
-    c.in-ok-division.division c.in-ok-division.ensures.value _ _ c.cut.ensures.levels c.cut.ensures.leaves
+    c.in_ok-division.division c.in_ok-division.ensures.value _ _ c.cut.ensures.levels c.cut.ensures.leaves

@@ -1,4 +1,4 @@
 use Rattle.sheet.proofs.list.+list_block.Given as goal
 
-abbrev pub decreases-list-block : goal.decreases-list-block
-decreases-list-block l = l.height
+abbrev pub decreases-list_block : goal.decreases-list_block
+decreases-list_block l = l.height

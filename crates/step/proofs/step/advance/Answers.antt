@@ -6,24 +6,24 @@ use Rattle.step.proofs.Finishing.{shaped, all_in_range, overfull_is, leaves_are}
 use Rattle.step.proofs.Verdicts.{inside_where, too_long, too_full, grants}
 use Rattle.step.proofs.step.advance.Goals as goal
 
-pub too-fast-requires : goal.too-fast-requires
-too-fast-requires g c =
+pub too_fast-requires : goal.too_fast-requires
+too_fast-requires g c =
     let b = basin_of c.args.head c.args.levels.now c.args.beds.now c.args.leaves.now in
     let ok = c.requires.valid in
     record { levels = ok.full.levels; leaves = ok.full.leaves; shallow = shallow b ok; range = all_in_range b ok; time = c.args.pace.in_range.1 }
 
-pub returns-then-too-fast : goal.returns-then-too-fast
-returns-then-too-fast g c =
+pub returns-then-too_fast : goal.returns-then-too_fast
+returns-then-too_fast g c =
     let b = basin_of c.args.head c.args.levels.now c.args.beds.now c.args.leaves.now in
     let R = g.R.FlowRule.meaning c.args.rule.now in
     let T = c.args.pace.time in
     let in-time = inside_where T c.args.pace.in_range.0 c.args.pace.in_range.1 in
-    record { step = too_long R T (length c.args.work.now) b c.requires.work c.requires.valid in-time (sym c.too_fast.ensures ∙ c.if-too-fast.true); late = refl }
+    record { step = too_long R T (length c.args.work.now) b c.requires.work c.requires.valid in-time (sym c.too_fast.ensures ∙ c.if-too_fast.true); late = refl }
 
 pub overfull-requires : goal.overfull-requires
 overfull-requires g c =
     let b = basin_of c.args.head c.args.levels.now c.args.beds.now c.args.leaves.now in
-    shaped b c.requires.valid c.walk-moved.new.work (c.walk-moved.auto.work ∙ c.copy-from-slice.ensures.len ∙ c.requires.work)
+    shaped b c.requires.valid c.walk-moved.new.work (c.walk-moved.auto.work ∙ c.copy_from_slice.ensures.len ∙ c.requires.work)
 
 pub returns-then-overfull : goal.returns-then-overfull
 returns-then-overfull g c =
@@ -32,13 +32,13 @@ returns-then-overfull g c =
     let T = c.args.pace.time in
     let in-time = inside_where T c.args.pace.in_range.0 c.args.pace.in_range.1 in
     let full = sym (overfull_is b c.requires.valid R T c.walk-moved.new.work c.walk-moved.ensures.walked) ∙ sym c.overfull.ensures ∙ c.if-overfull.true in
-    record { step = too_full R T (length c.args.work.now) b c.requires.work c.requires.valid in-time (sym c.too_fast.ensures ∙ c.if-too-fast.false) full; late = refl }
+    record { step = too_full R T (length c.args.work.now) b c.requires.work c.requires.valid in-time (sym c.too_fast.ensures ∙ c.if-too_fast.false) full; late = refl }
 
 pub spread-requires : goal.spread-requires
 spread-requires g c =
     let b = basin_of c.args.head c.args.levels.now c.args.beds.now c.args.leaves.now in
     record {
-      shaped = shaped b c.requires.valid c.walk-moved.new.work (c.walk-moved.auto.work ∙ c.copy-from-slice.ensures.len ∙ c.requires.work);
+      shaped = shaped b c.requires.valid c.walk-moved.new.work (c.walk-moved.auto.work ∙ c.copy_from_slice.ensures.len ∙ c.requires.work);
       leaves = c.requires.valid.full.leaves;
     }
 
@@ -53,7 +53,7 @@ returns g c =
     let in-time = inside_where T c.args.pace.in_range.0 c.args.pace.in_range.1 in
     let room = sym (overfull_is b ok R T work walked) ∙ sym c.overfull.ensures ∙ c.if-overfull.false in
     record {
-      step = grants R T (length c.args.work.now) b c.requires.work ok in-time (sym c.too_fast.ensures ∙ c.if-too-fast.false) room
+      step = grants R T (length c.args.work.now) b c.requires.work ok in-time (sym c.too_fast.ensures ∙ c.if-too_fast.false) room
           c.walk-moved.result c.spread.new.leaves c.walk-moved.ensures.moved
           (leaves_are b ok R T work walked c.spread.new.leaves (c.spread.auto.leaves ∙ ok.full.leaves) c.spread.ensures);
       late = refl;

@@ -12,13 +12,13 @@ returns-then-work-squares g c =
     let R = g.R.FlowRule.meaning c.args.rule.now in
     record { step = short R c.args.time (length c.args.work.now) b (λ e. c.if-work-squares.true (e ∙ sym c.squares.ensures.value)); work = refl }
 
-pub returns-in-err-validate : goal.returns-in-err-validate
-returns-in-err-validate g c =
+pub returns-in_err-validate : goal.returns-in_err-validate
+returns-in_err-validate g c =
     let b = basin_of c.args.head c.args.levels.now c.args.beds.now c.args.leaves.now in
     let R = g.R.FlowRule.meaning c.args.rule.now in
     let full = c.if-work-squares.false ∙ c.squares.ensures.value in
-    let p = err_from_is_err_and c.from-residual.result c.from-residual.ensures.1 in
-    let h = sym c.in-err-validate.ensures.verdict in
+    let p = err_from_is_err_and c.from_residual.result c.from_residual.ensures.1 in
+    let h = sym c.in_err-validate.ensures.verdict in
     rw (p.1, p.2) (record { step = invalid R c.args.time (length c.args.work.now) b full _ h; work = work_kept b _ c.args.work.now h })
 
 pub returns-then-time-lt1 : goal.returns-then-time-lt1
@@ -27,7 +27,7 @@ returns-then-time-lt1 g c =
     let R = g.R.FlowRule.meaning c.args.rule.now in
     let full = c.if-work-squares.false ∙ c.squares.ensures.value in
     record {
-      step = out_of_time R c.args.time (length c.args.work.now) b full c.in-ok-validate.ensures.valid (outside_where c.args.time c.then-time-lt1.either);
+      step = out_of_time R c.args.time (length c.args.work.now) b full c.in_ok-validate.ensures.valid (outside_where c.args.time c.then-time-lt1.either);
       work = refl;
     }
 

@@ -2,5 +2,5 @@
 use Rattle.std.proofs.Common.{mul-le-mul}
 use Rattle.tables.proofs.validity.in_range.Goals as goal
 
-pub may-hold-requires : goal.may-hold-requires
-may-hold-requires c = mul-le-mul c.side-s.ensures.most c.side-s.ensures.most
+pub may_hold-requires : goal.may_hold-requires
+may_hold-requires c = mul-le-mul c.side-s.ensures.most c.side-s.ensures.most

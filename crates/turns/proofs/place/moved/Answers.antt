@@ -3,7 +3,7 @@ use Rattle.std.proofs.Common.{◌≡◌, ◌/◌, ◌%◌, ◌<◌, sym, refl, a
 use Rattle.runs.specs.Turns.{Place, place, flip_place, times}
 use Rattle.turns.proofs.Places.{Inside, once, half, thrice, not_flipped, flipped_first, then_quarters}
 use Rattle.turns.proofs.place.moved.Goals as goal
-use Rattle.turns.proofs.place.moved.Goals.{Joined-turn-lt4, then-turn-lt4, else-turn-lt4, at·returns-in-0, at·returns-in-1, at·returns-in-2, at·returns-in-default}
+use Rattle.turns.proofs.place.moved.Goals.{Joined-turn-lt4, then-turn-lt4, else-turn-lt4, at·returns-in-0, at·returns-in-1, at·returns-in-2, at·returns-in_default}
 
 -- the place after the flip
 flipped : (c : Joined-turn-lt4) → place c.if-turn-lt4.x c.args.y ≡ times (c.args.turn / 4) (flip_place c.args.n) (place c.args.x c.args.y)
@@ -49,9 +49,9 @@ returns-in-2 c =
       north = omega (arith, (inside j).north);
     }
 
-pub returns-in-default : goal.returns-in-default
-returns-in-default c =
-    let j = (at·returns-in-default c).Joined-turn-lt4 in
+pub returns-in_default : goal.returns-in_default
+returns-in_default c =
+    let j = (at·returns-in_default c).Joined-turn-lt4 in
     let three : c.args.turn % 4 ≡ 3 = omega arith in
     record {
       value = then_quarters c.args.n c.args.turn 3 _ _ _ three (flipped j) (thrice c.args.n (place c.if-turn-lt4.x c.args.y) (inside j));

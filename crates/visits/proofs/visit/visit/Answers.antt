@@ -13,41 +13,41 @@ sides-around-requires g c =
 
 pub take-requires : goal.take-requires
 take-requires g c =
-    let is = c.departure-of-departure.ensures in
+    let is = c.departure_of-departure.ensures in
     let total = total_is (basin_of c.args.head c.args.levels.now c.args.beds.now c.args.leaves.now) c.requires.valid (as_block c.args.block) c.requires.leaf (g.R.FlowRule.meaning c.args.rule.now) c.args.pace.time _ c.sides-around.ensures _ is.value is.small in
     record { lies = c.requires.lies; full = c.requires.full; enough = omega (arith, total, c.requires.enough) }
 
 pub send-requires : goal.send-requires
 send-requires g c =
-    let is = c.departure-of-departure.ensures in
+    let is = c.departure_of-departure.ensures in
     let fits = east_fits (basin_of c.args.head c.args.levels.now c.args.beds.now c.args.leaves.now) c.requires.valid (as_block c.args.block) c.requires.leaf (g.R.FlowRule.meaning c.args.rule.now) c.args.pace.time _ c.sides-around.ensures _ is.value is.small
     _ _ c.requires.full c.requires.room c.requires.enough c.take.ensures in
     record { full = fits.full; room = fits.room }
 
 pub send-requires-2 : goal.send-requires-2
 send-requires-2 g c =
-    let is = c.departure-of-departure.ensures in
+    let is = c.departure_of-departure.ensures in
     let fits = north_fits (basin_of c.args.head c.args.levels.now c.args.beds.now c.args.leaves.now) c.requires.valid (as_block c.args.block) c.requires.leaf (g.R.FlowRule.meaning c.args.rule.now) c.args.pace.time _ c.sides-around.ensures _ is.value is.small
     _ _ c.requires.full c.requires.room c.requires.enough c.take.ensures _ c.send.ensures in
     record { full = fits.full; room = fits.room }
 
 pub send-requires-3 : goal.send-requires-3
 send-requires-3 g c =
-    let is = c.departure-of-departure.ensures in
+    let is = c.departure_of-departure.ensures in
     let fits = west_fits (basin_of c.args.head c.args.levels.now c.args.beds.now c.args.leaves.now) c.requires.valid (as_block c.args.block) c.requires.leaf (g.R.FlowRule.meaning c.args.rule.now) c.args.pace.time _ c.sides-around.ensures _ is.value is.small
     _ _ c.requires.full c.requires.room c.requires.enough c.take.ensures _ c.send.ensures _ c.send-2.ensures in
     record { full = fits.full; room = fits.room }
 
 pub send-requires-4 : goal.send-requires-4
 send-requires-4 g c =
-    let is = c.departure-of-departure.ensures in
+    let is = c.departure_of-departure.ensures in
     let fits = south_fits (basin_of c.args.head c.args.levels.now c.args.beds.now c.args.leaves.now) c.requires.valid (as_block c.args.block) c.requires.leaf (g.R.FlowRule.meaning c.args.rule.now) c.args.pace.time _ c.sides-around.ensures _ is.value is.small
     _ _ c.requires.full c.requires.room c.requires.enough c.take.ensures _ c.send.ensures _ c.send-2.ensures _ c.send-3.ensures in
     record { full = fits.full; room = fits.room }
 
 pub returns : goal.returns
 returns g c =
-    let is = c.departure-of-departure.ensures in
+    let is = c.departure_of-departure.ensures in
     record {
       moved = total_is (basin_of c.args.head c.args.levels.now c.args.beds.now c.args.leaves.now) c.requires.valid (as_block c.args.block) c.requires.leaf (g.R.FlowRule.meaning c.args.rule.now) c.args.pace.time _ c.sides-around.ensures _ is.value is.small;
       visited = visited (basin_of c.args.head c.args.levels.now c.args.beds.now c.args.leaves.now) c.requires.valid (as_block c.args.block) c.requires.leaf (g.R.FlowRule.meaning c.args.rule.now) c.args.pace.time _ c.sides-around.ensures _ is.value is.small

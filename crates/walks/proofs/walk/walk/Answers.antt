@@ -87,7 +87,7 @@ loop-i-preserved g c =
             search rules,
             subst Q (sym w.work_is) (walked_more b ok R T i c.loop-i.work w.visit.new.work (as_block c.home-block.result) here at inv.1 w.visit.ensures.visited),
             omega (arith, m, o, mi, inv.2),
-            omega (arith, mi, inv.3, w.visit.type-inv),
+            omega (arith, mi, inv.3, w.visit.type_inv),
           )
       | else-corner-i w ↦
           let n : corner_entry L (home_at L levels i) ≡ i → ⊥ = λ h. w.if-corner-i.false (c.corner.ensures.value ∙ same ∙ h) in

@@ -20,24 +20,24 @@ returns c =
     let v₂ : SFits w64 two.v = search rules in
     let h₁ = to_z_pos w64 one.h (omega (arith, one.in_range.0)) in
     let h₂ = to_z_pos w64 two.h (omega (arith, two.in_range.0)) in
-    let a = back _ _ (record { sfits = c.ahead-a.type-inv }) c.ahead-a.ensures.value in
-    let b = back _ _ (record { sfits = c.behind-b.type-inv }) c.behind-b.ensures.value in
+    let a = back _ _ (record { sfits = c.ahead-a.type_inv }) c.ahead-a.ensures.value in
+    let b = back _ _ (record { sfits = c.behind-b.type_inv }) c.behind-b.ensures.value in
     let e₁ : c.carried-run1.result ≡ carried one.h one.u = simp to_z-of_z at c.carried-run1.ensures.value in
     let e₂ : c.carried-run2.result ≡ carried two.h two.u = simp to_z-of_z at c.carried-run2.ensures.value in
     let e₃ : c.carried-slide1.result ≡ carried one.h one.v = simp to_z-of_z at c.carried-slide1.ensures.value in
     let e₄ : c.carried-slide2.result ≡ carried two.h two.v = simp to_z-of_z at c.carried-slide2.ensures.value in
-    let run₁ = back _ _ (record { sfits = c.carried-run1.type-inv }) e₁ in
-    let run₂ = back _ _ (record { sfits = c.carried-run2.type-inv }) e₂ in
-    let slide₁ = back _ _ (record { sfits = c.carried-slide1.type-inv }) e₃ in
-    let slide₂ = back _ _ (record { sfits = c.carried-slide2.type-inv }) e₄ in
-    let across₁ = back _ _ (record { sfits = c.across.type-inv }) c.across.ensures.value in
-    let across₂ = back _ _ (record { sfits = c.across-2.type-inv }) c.across-2.ensures.value in
+    let run₁ = back _ _ (record { sfits = c.carried-run1.type_inv }) e₁ in
+    let run₂ = back _ _ (record { sfits = c.carried-run2.type_inv }) e₂ in
+    let slide₁ = back _ _ (record { sfits = c.carried-slide1.type_inv }) e₃ in
+    let slide₂ = back _ _ (record { sfits = c.carried-slide2.type_inv }) e₄ in
+    let across₁ = back _ _ (record { sfits = c.across.type_inv }) c.across.ensures.value in
+    let across₂ = back _ _ (record { sfits = c.across-2.type_inv }) c.across-2.ensures.value in
     let m₁ : c.momentum.result ≡ momentum (state_of one) one.v = simp to_z-of_z at c.momentum.ensures.value in
     let m₂ : c.momentum-2.result ≡ momentum (state_of two) two.v = simp to_z-of_z at c.momentum-2.ensures.value in
-    let along₁ = back _ _ (record { sfits = c.momentum.type-inv }) m₁ in
-    let along₂ = back _ _ (record { sfits = c.momentum-2.type-inv }) m₂ in
+    let along₁ = back _ _ (record { sfits = c.momentum.type_inv }) m₁ in
+    let along₂ = back _ _ (record { sfits = c.momentum-2.type_inv }) m₂ in
     record {
-      flow = back _ _ (record { sfits = c.blend.type-inv }) (blend_same _ _ _ _ _ _ _ _ _ _ _ _ _ c.blend.ensures a b run₁ run₂ h₁ h₂);
-      push = back _ _ (record { sfits = c.blend-2.type-inv }) (blend_same _ _ _ _ _ _ _ _ _ _ _ _ _ c.blend-2.ensures a b across₁ across₂ run₁ run₂);
-      drift = back _ _ (record { sfits = c.blend-3.type-inv }) (blend_same _ _ _ _ _ _ _ _ _ _ _ _ _ c.blend-3.ensures a b along₁ along₂ slide₁ slide₂);
+      flow = back _ _ (record { sfits = c.blend.type_inv }) (blend_same _ _ _ _ _ _ _ _ _ _ _ _ _ c.blend.ensures a b run₁ run₂ h₁ h₂);
+      push = back _ _ (record { sfits = c.blend-2.type_inv }) (blend_same _ _ _ _ _ _ _ _ _ _ _ _ _ c.blend-2.ensures a b across₁ across₂ run₁ run₂);
+      drift = back _ _ (record { sfits = c.blend-3.type_inv }) (blend_same _ _ _ _ _ _ _ _ _ _ _ _ _ c.blend-3.ensures a b along₁ along₂ slide₁ slide₂);
     }

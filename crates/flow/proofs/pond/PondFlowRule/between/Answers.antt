@@ -10,7 +10,7 @@ returns c =
     let q = c.pressure-2.ensures in
     let mean = (c.pressure.result + c.pressure-2.result) / 2 in
     record {
-      flow = back _ _ (record { sfits = c.signed-fall.type-inv }) c.signed-fall.ensures;
+      flow = back _ _ (record { sfits = c.signed_fall.type_inv }) c.signed_fall.ensures;
       push = to_z_pos w64 mean (omega (arith, p.most, q.most)) ∙ (λ i. pos ((p.value i + q.value i) / 2));
       drift = refl;
     }
