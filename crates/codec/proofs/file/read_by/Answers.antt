@@ -7,7 +7,7 @@ use Rattle.codec.specs.declared.fault.FileFault.TheVariants.{Tree}
 use Rattle.codec.specs.Files.{body_at, file_at}
 use Rattle.codec.proofs.Whole.{file_no_head, file_no_body, no_body, file_told, read_refused, read_misfit, read_granted}
 use Rattle.codec.proofs.file.read_by.Goals as goal
-use Rattle.codec.proofs.file.read_by.Goals.{After-is_balanced, at·returns, at·returns-then-not-is_balanced, at·returns-then-levels-squares}
+use Rattle.codec.proofs.file.read_by.Goals.{After-is_balanced, at-returns, at-returns-then-not-is_balanced, at-returns-then-levels-squares}
 
 pub returns-in_err-head : goal.returns-in_err-head
 returns-in_err-head c =
@@ -39,11 +39,11 @@ charts c e = told c ∙ rw e refl
 
 pub returns-then-not-is_balanced : goal.returns-then-not-is_balanced
 returns-then-not-is_balanced c =
-    read_refused _ _ _ (told (at·returns-then-not-is_balanced c).After-is_balanced ∙ rw c.if-not-is_balanced.true refl)
+    read_refused _ _ _ (told (at-returns-then-not-is_balanced c).After-is_balanced ∙ rw c.if-not-is_balanced.true refl)
 
 pub returns-then-levels-squares : goal.returns-then-levels-squares
 returns-then-levels-squares c =
-    read_misfit _ _ _ (charts (at·returns-then-levels-squares c).After-is_balanced c.if-not-is_balanced.false)
+    read_misfit _ _ _ (charts (at-returns-then-levels-squares c).After-is_balanced c.if-not-is_balanced.false)
     (is_misfit _ _ (not_full _ _ _ c.squares-squares.ensures.value c.then-levels-squares.either))
 
 pub returns : goal.returns
@@ -52,5 +52,5 @@ returns c =
     let beds = c.copy_from_slice-2.ensures.after in
     let leaves = c.copy_from_slice-3.ensures.after in
     (λ i. (Ok (heading c.in_ok-head.head), tables (levels i) (beds i) (leaves i)))
-    ∙ read_granted _ _ _ (charts (at·returns c).After-is_balanced c.if-not-is_balanced.false)
+    ∙ read_granted _ _ _ (charts (at-returns c).After-is_balanced c.if-not-is_balanced.false)
     (no_misfit _ _ (are_full _ _ _ c.squares-squares.ensures.value c.if-levels-squares.false c.if-beds-squares.false c.if-leaves-squares.false))

@@ -3,7 +3,7 @@ use Rattle.basin.specs.Basins.{Full, heading, tables, basin_of}
 use Rattle.basin.proofs.Telling.{are_full, not_full}
 use Rattle.tables.proofs.Valid.{told_misfit, told_valid, told_invalid}
 use Rattle.tables.proofs.validity.validate.Goals as goal
-use Rattle.tables.proofs.validity.validate.Goals.{Else-leaves-squares, at·returns-then-is_valid, at·returns-else-is_valid}
+use Rattle.tables.proofs.validity.validate.Goals.{Else-leaves-squares, at-returns-then-is_valid, at-returns-else-is_valid}
 
 pub returns-then-levels-squares : goal.returns-then-levels-squares
 returns-then-levels-squares c =
@@ -20,11 +20,11 @@ is_valid-requires c = full c
 pub returns-then-is_valid : goal.returns-then-is_valid
 returns-then-is_valid c =
     let t = told_valid (basin_of c.args.head c.args.levels.now c.args.beds.now c.args.leaves.now) _
-    (full (at·returns-then-is_valid c).Else-leaves-squares) c.is_valid.ensures c.if-is_valid.true in
+    (full (at-returns-then-is_valid c).Else-leaves-squares) c.is_valid.ensures c.if-is_valid.true in
     record { verdict = t.0; valid = t.1 }
 
 pub returns-else-is_valid : goal.returns-else-is_valid
 returns-else-is_valid c =
     let t = told_invalid (basin_of c.args.head c.args.levels.now c.args.beds.now c.args.leaves.now) _
-    (full (at·returns-else-is_valid c).Else-leaves-squares) c.is_valid.ensures c.if-is_valid.false in
+    (full (at-returns-else-is_valid c).Else-leaves-squares) c.is_valid.ensures c.if-is_valid.false in
     record { verdict = t.0; valid = t.1 }

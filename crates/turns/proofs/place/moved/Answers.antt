@@ -3,7 +3,7 @@ use Rattle.std.proofs.Common.{◌≡◌, ◌/◌, ◌%◌, ◌<◌, sym, refl, a
 use Rattle.runs.specs.Turns.{Place, place, flip_place, times}
 use Rattle.turns.proofs.Places.{Inside, once, half, thrice, not_flipped, flipped_first, then_quarters}
 use Rattle.turns.proofs.place.moved.Goals as goal
-use Rattle.turns.proofs.place.moved.Goals.{Joined-turn-lt4, then-turn-lt4, else-turn-lt4, at·returns-in-0, at·returns-in-1, at·returns-in-2, at·returns-in_default}
+use Rattle.turns.proofs.place.moved.Goals.{Joined-turn-lt4, then-turn-lt4, else-turn-lt4, at-returns-in-0, at-returns-in-1, at-returns-in-2, at-returns-in_default}
 
 -- the place after the flip
 flipped : (c : Joined-turn-lt4) → place c.if-turn-lt4.x c.args.y ≡ times (c.args.turn / 4) (flip_place c.args.n) (place c.args.x c.args.y)
@@ -24,7 +24,7 @@ inside c =
 
 pub returns-in-0 : goal.returns-in-0
 returns-in-0 c =
-    let j = (at·returns-in-0 c).Joined-turn-lt4 in
+    let j = (at-returns-in-0 c).Joined-turn-lt4 in
     record {
       value = then_quarters c.args.n c.args.turn 0 _ _ _ c.in-0.is (flipped j) refl;
       east = (inside j).east;
@@ -33,7 +33,7 @@ returns-in-0 c =
 
 pub returns-in-1 : goal.returns-in-1
 returns-in-1 c =
-    let j = (at·returns-in-1 c).Joined-turn-lt4 in
+    let j = (at-returns-in-1 c).Joined-turn-lt4 in
     record {
       value = then_quarters c.args.n c.args.turn 1 _ _ _ c.in-1.is (flipped j) (once c.args.n (place c.if-turn-lt4.x c.args.y) (inside j));
       east = omega (arith, (inside j).north);
@@ -42,7 +42,7 @@ returns-in-1 c =
 
 pub returns-in-2 : goal.returns-in-2
 returns-in-2 c =
-    let j = (at·returns-in-2 c).Joined-turn-lt4 in
+    let j = (at-returns-in-2 c).Joined-turn-lt4 in
     record {
       value = then_quarters c.args.n c.args.turn 2 _ _ _ c.in-2.is (flipped j) (half c.args.n (place c.if-turn-lt4.x c.args.y) (inside j));
       east = omega (arith, (inside j).east);
@@ -51,7 +51,7 @@ returns-in-2 c =
 
 pub returns-in_default : goal.returns-in_default
 returns-in_default c =
-    let j = (at·returns-in_default c).Joined-turn-lt4 in
+    let j = (at-returns-in_default c).Joined-turn-lt4 in
     let three : c.args.turn % 4 ≡ 3 = omega arith in
     record {
       value = then_quarters c.args.n c.args.turn 3 _ _ _ three (flipped j) (thrice c.args.n (place c.if-turn-lt4.x c.args.y) (inside j));

@@ -10,7 +10,7 @@ use Rattle.turns.proofs.Calls.{turn_misfit, turn_refused, turn_unknown, turn_gra
 use Rattle.turns.specs.Records.{reversible}
 use Rattle.turns.proofs.Waters.{turned_total}
 use Rattle.turns.proofs.turn.turn.Goals as goal
-use Rattle.turns.proofs.turn.turn.Goals.{Else-second_leaves-squares, at·returns-in_err-validate, at·returns-then-turn-gt7, at·returns}
+use Rattle.turns.proofs.turn.turn.Goals.{Else-second_leaves-squares, at-returns-in_err-validate, at-returns-then-turn-gt7, at-returns}
 
 pub returns-then-second_levels-squares : goal.returns-then-second_levels-squares
 returns-then-second_levels-squares c =
@@ -35,7 +35,7 @@ returns-in_err-validate c =
       turned =
           turn_refused (basin_of c.args.head c.args.levels.now c.args.beds.now c.args.leaves.now)
           (tables c.args.second_levels.now c.args.second_beds.now c.args.second_leaves.now) _
-          (full (at·returns-in_err-validate c).Else-second_leaves-squares) _ c.in_err-validate.ensures.verdict;
+          (full (at-returns-in_err-validate c).Else-second_leaves-squares) _ c.in_err-validate.ensures.verdict;
       valid = tt;
       total = tt;
     })
@@ -46,7 +46,7 @@ returns-then-turn-gt7 c =
       turned =
           turn_unknown (basin_of c.args.head c.args.levels.now c.args.beds.now c.args.leaves.now)
           (tables c.args.second_levels.now c.args.second_beds.now c.args.second_leaves.now) _
-          (full (at·returns-then-turn-gt7 c).Else-second_leaves-squares) c.in_ok-validate.ensures.verdict c.if-turn-gt7.true;
+          (full (at-returns-then-turn-gt7 c).Else-second_leaves-squares) c.in_ok-validate.ensures.verdict c.if-turn-gt7.true;
       valid = tt;
       total = tt;
     }
@@ -78,7 +78,7 @@ returns c =
     record {
       turned =
           turn_granted b (tables c.args.second_levels.now c.args.second_beds.now c.args.second_leaves.now) _
-          (full (at·returns c).Else-second_leaves-squares) second c.in_ok-validate.ensures.verdict c.if-turn-gt7.false is;
+          (full (at-returns c).Else-second_leaves-squares) second c.in_ok-validate.ensures.verdict c.if-turn-gt7.false is;
       valid = subst ValidBasin (sym is) (turned_valid c.args.turn b right);
       total = ap total is ∙ turned_total c.args.turn b right;
     }
