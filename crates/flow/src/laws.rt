@@ -5,5 +5,5 @@ use crate::rule::FlowRule;
 
 /// Every value of every rule keeps the four laws, as the steps of a run ask of their rules.
 pub fn rules_are_lawful<R: FlowRule>(rule: &R)
-    ensures { Lawful (meaning rule.now) }
+    ensures { Lawful (R.meaning rule.now) }
 {}

@@ -3,7 +3,7 @@ use Rattle.std.proofs.Common.{ℕ, arith}
 use Rattle.basin.specs.Basins.{basin_of}
 use Rattle.encode.proofs.Nodes.{Here, high, sw, se, nw, ne, small_here, cut_length, leaf_node_length, few_here}
 use Rattle.encode.proofs.node.+node_length.Goals as goal
-use Rattle.encode.proofs.node.+node_length.Goals.{After-place-here, at-node-length-sw-requires, at-node-length-se-requires, at-node-length-nw-requires, at-node-length-ne-requires, at-leaf-length-requires, at-returns-then-levels-here, at-returns-else-levels-here}
+use Rattle.encode.proofs.node.+node_length.Goals.{After-place-here, at-node_length-sw-requires, at-node_length-se-requires, at-node_length-nw-requires, at-node_length-ne-requires, at-leaf_length-requires, at-returns-then-levels-here, at-returns-else-levels-here}
 
 here : (t : ℕ) (c : After-place-here t)
     → Here (basin_of c.args.head c.args.levels.now c.args.beds.now c.args.leaves.now) c.args.height c.args.x c.args.y c.side.result c.place-here.result
@@ -11,34 +11,34 @@ here t c = record { valid = c.requires.valid; lies = c.requires.block; side_is =
 
 pub node_length-sw-requires : goal.node_length-sw-requires
 node_length-sw-requires t c =
-    let at = here t (at-node-length-sw-requires t c).After-place-here in (
+    let at = here t (at-node_length-sw-requires t c).After-place-here in (
       omega (arith, high at c.side-half.ensures.value c.if-levels-here.true),
       (c.requires.valid, sw at c.side-half.ensures.value c.if-levels-here.true),
     )
 
 pub node_length-se-requires : goal.node_length-se-requires
 node_length-se-requires t c =
-    let at = here t (at-node-length-se-requires t c).After-place-here in (
+    let at = here t (at-node_length-se-requires t c).After-place-here in (
       omega (arith, high at c.side-half.ensures.value c.if-levels-here.true),
       (c.requires.valid, se at c.side-half.ensures.value c.if-levels-here.true),
     )
 
 pub node_length-nw-requires : goal.node_length-nw-requires
 node_length-nw-requires t c =
-    let at = here t (at-node-length-nw-requires t c).After-place-here in (
+    let at = here t (at-node_length-nw-requires t c).After-place-here in (
       omega (arith, high at c.side-half.ensures.value c.if-levels-here.true),
       (c.requires.valid, nw at c.side-half.ensures.value c.if-levels-here.true),
     )
 
 pub node_length-ne-requires : goal.node_length-ne-requires
 node_length-ne-requires t c =
-    let at = here t (at-node-length-ne-requires t c).After-place-here in (
+    let at = here t (at-node_length-ne-requires t c).After-place-here in (
       omega (arith, high at c.side-half.ensures.value c.if-levels-here.true),
       (c.requires.valid, ne at c.side-half.ensures.value c.if-levels-here.true),
     )
 
 pub leaf_length-requires : goal.leaf_length-requires
-leaf_length-requires t c = small_here (here t (at-leaf-length-requires t c).After-place-here)
+leaf_length-requires t c = small_here (here t (at-leaf_length-requires t c).After-place-here)
 
 pub returns-then-levels-here : goal.returns-then-levels-here
 returns-then-levels-here t c =

@@ -5,7 +5,7 @@ use Rattle.numbers.specs.Numbers.{number, coded}
 use Rattle.encode.proofs.Puts.{put, then, room_three}
 use Rattle.encode.proofs.Ranges.{small}
 use Rattle.encode.proofs.record.put_leaf.Goals as goal
-use Rattle.encode.proofs.record.put_leaf.Goals.{After-to_coded, After-to_coded-2, at-put-number-requires, at-returns}
+use Rattle.encode.proofs.record.put_leaf.Goals.{After-to_coded, After-to_coded-2, at-put_number-requires, at-returns}
 
 east_is : (c : After-to_coded) → c.to_coded.result ≡ coded c.args.leaf.east
 east_is c =
@@ -30,7 +30,7 @@ put_number-north_at-requires c =
 pub put_number-requires : goal.put_number-requires
 put_number-requires c =
     let r = room_three c.args.at (length c.args.out.now) (number c.args.leaf.water) (number (coded c.args.leaf.east)) (number (coded c.args.leaf.north)) c.requires.room in
-    let e = c.put_number-north_at.ensures.place ∙ ap (λ n. c.put_number-east_at.result + length (number n)) (east_is (at-put-number-requires c).After-to_coded) in
+    let e = c.put_number-north_at.ensures.place ∙ ap (λ n. c.put_number-east_at.result + length (number n)) (east_is (at-put_number-requires c).After-to_coded) in
     rw (north_is c) (record { small = (small c.args.leaf c.requires.small).north; room = omega (arith, e, c.put_number-east_at.ensures.place) })
 
 pub returns : goal.returns

@@ -7,4 +7,4 @@ pub returns : goal.returns
 returns c =
     let k = c.args.k in
     let e = c.isqrt.ensures in
-    root_unique k c.isqrt.result (square_root k) (e.square_le, e.next-square-gt) (roots k)
+    root_unique k c.isqrt.result (square_root k) (e.square_le, e.next_square_gt) (roots k)

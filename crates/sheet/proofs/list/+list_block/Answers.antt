@@ -3,7 +3,7 @@ use Rattle.std.proofs.lemmas.Slice.{pushed}
 use Rattle.basin.specs.Basins.{basin_of, view}
 use Rattle.sheet.proofs.Listing.{Cut, cut_by, lines_cut, lines_leaf, added_four}
 use Rattle.sheet.proofs.list.+list_block.Goals as goal
-use Rattle.sheet.proofs.list.+list_block.Goals.{Then-level-head, at-list-block-requires, at-list-block-requires-then-level-head, at-list-block-requires-then-level-head-2, at-list-block-requires-then-level-head-3, at-returns-in_ok-list_block-3}
+use Rattle.sheet.proofs.list.+list_block.Goals.{Then-level-head, at-list_block-requires, at-list_block-requires-then-level-head, at-list_block-requires-then-level-head-2, at-list_block-requires-then-level-head-3, at-returns-in_ok-list_block-3}
 
 -- the block is cut
 cut : (t : ℕ) (c : Then-level-head t)
@@ -14,22 +14,22 @@ cut t c =
 
 pub list_block-requires : goal.list_block-requires
 list_block-requires t c =
-    let k = cut t (at-list-block-requires t c).Then-level-head in
+    let k = cut t (at-list_block-requires t c).Then-level-head in
     (omega (arith, k.high), (c.requires.valid, (omega arith, (omega (arith, k.halves), omega (arith, k.halves)))))
 
 pub list_block-requires-then-level-head : goal.list_block-requires-then-level-head
 list_block-requires-then-level-head t c =
-    let k = cut t (at-list-block-requires-then-level-head t c).Then-level-head in
+    let k = cut t (at-list_block-requires-then-level-head t c).Then-level-head in
     (omega (arith, k.high), (c.requires.valid, (omega arith, (omega (arith, k.halves), omega (arith, k.halves)))))
 
 pub list_block-requires-then-level-head-2 : goal.list_block-requires-then-level-head-2
 list_block-requires-then-level-head-2 t c =
-    let k = cut t (at-list-block-requires-then-level-head-2 t c).Then-level-head in
+    let k = cut t (at-list_block-requires-then-level-head-2 t c).Then-level-head in
     (omega (arith, k.high), (c.requires.valid, (omega arith, (omega (arith, k.halves), omega (arith, k.halves)))))
 
 pub list_block-requires-then-level-head-3 : goal.list_block-requires-then-level-head-3
 list_block-requires-then-level-head-3 t c =
-    let k = cut t (at-list-block-requires-then-level-head-3 t c).Then-level-head in
+    let k = cut t (at-list_block-requires-then-level-head-3 t c).Then-level-head in
     (omega (arith, k.high), (c.requires.valid, (omega arith, (omega (arith, k.halves), omega (arith, k.halves)))))
 
 pub returns-in_ok-list_block-3 : goal.returns-in_ok-list_block-3

@@ -16,10 +16,10 @@ loop-preserved c =
 after_flip : (c : After-loop) → c.if-turn-lt4.leaf ≡ times (c.args.turn / 4) flip_leaf c.args.self
 after_flip c =
     elim c.if-turn-lt4.branch [
-      | then-turn-lt4 w ↦ let none : 0 ≡ c.args.turn / 4 = omega arith in w.leaf_is ∙ ap (λ f. times f flip_leaf c.args.self) none
+      | then-turn-lt4 w ↦ let none : 0 ≡ c.args.turn / 4 = omega arith in w.leaf-is ∙ ap (λ f. times f flip_leaf c.args.self) none
       | else-turn-lt4 w ↦
           let one : 1 ≡ c.args.turn / 4 = omega arith in
-          w.leaf_is ∙ w.flipped-leaf.ensures.value ∙ ap (λ f. times f flip_leaf c.args.self) one
+          w.leaf-is ∙ w.flipped-leaf.ensures.value ∙ ap (λ f. times f flip_leaf c.args.self) one
     ]
 
 pub returns : goal.returns
