@@ -30,7 +30,7 @@ fn border<R: FlowRule>(
     requires beside { LeavesOn head.levels beds.now leaves.now edge }
     requires beds { length beds.now ≡ 2 ^ head.levels * 2 ^ head.levels }
     requires leaves { length leaves.now ≡ 2 ^ head.levels * 2 ^ head.levels }
-    ensures value { result ≡ border_of (meaning rule.now) pace.time pace.width head.levels beds.now leaves.now dir near (as_side edge) }
+    ensures value { result ≡ border_of (R.meaning rule.now) pace.time pace.width head.levels beds.now leaves.now dir near (as_side edge) }
     ensures small { SmallBorder result }
 {
     match edge {
@@ -82,7 +82,7 @@ pub fn borders<R: FlowRule>(
     requires south { LeavesOn head.levels beds.now leaves.now sides.south }
     requires beds { length beds.now ≡ 2 ^ head.levels * 2 ^ head.levels }
     requires leaves { length leaves.now ≡ 2 ^ head.levels * 2 ^ head.levels }
-    ensures value { result ≡ borders_of (meaning rule.now) pace.time pace.width head.levels beds.now leaves.now near sides }
+    ensures value { result ≡ borders_of (R.meaning rule.now) pace.time pace.width head.levels beds.now leaves.now near sides }
     ensures small { SmallBorders result }
 {
     Borders {

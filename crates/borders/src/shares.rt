@@ -33,9 +33,9 @@ fn share_of<R: FlowRule>(
     pace: Pace,
 ) -> Share
     requires { length ≤ 64 }
-    ensures wish { result.wish ≡ wish_by (meaning rule.now) pace.time pace.width dir (face_of (state_of near) (state_of far) length) }
-    ensures across { result.across ≡ across_by (meaning rule.now) pace.time pace.width dir (face_of (state_of near) (state_of far) length) }
-    ensures along { result.along ≡ along_by (meaning rule.now) pace.time pace.width dir (face_of (state_of near) (state_of far) length) }
+    ensures wish { result.wish ≡ wish_by (R.meaning rule.now) pace.time pace.width dir (face_of (state_of near) (state_of far) length) }
+    ensures across { result.across ≡ across_by (R.meaning rule.now) pace.time pace.width dir (face_of (state_of near) (state_of far) length) }
+    ensures along { result.along ≡ along_by (R.meaning rule.now) pace.time pace.width dir (face_of (state_of near) (state_of far) length) }
     ensures small { SmallShare result }
 {
     match dir {
@@ -61,9 +61,9 @@ fn share_of<R: FlowRule>(
 /// What the face between two leaves does to the near one.
 pub fn between<R: FlowRule>(rule: &R, near: Pool, far: Pool, dir: Dir, pace: Pace) -> Share
     requires { (Kept near) × (Kept far) }
-    ensures wish { result.wish ≡ wish_by (meaning rule.now) pace.time pace.width dir (face_between dir near far) }
-    ensures across { result.across ≡ across_by (meaning rule.now) pace.time pace.width dir (face_between dir near far) }
-    ensures along { result.along ≡ along_by (meaning rule.now) pace.time pace.width dir (face_between dir near far) }
+    ensures wish { result.wish ≡ wish_by (R.meaning rule.now) pace.time pace.width dir (face_between dir near far) }
+    ensures across { result.across ≡ across_by (R.meaning rule.now) pace.time pace.width dir (face_between dir near far) }
+    ensures along { result.along ≡ along_by (R.meaning rule.now) pace.time pace.width dir (face_between dir near far) }
     ensures small { SmallShare result }
 {
     let sill = near.bed.max(far.bed);
@@ -81,8 +81,8 @@ pub fn between<R: FlowRule>(rule: &R, near: Pool, far: Pool, dir: Dir, pace: Pac
 /// What the basin's wall does to a leaf: behind it stands the leaf's own side, mirrored.
 pub fn at_wall<R: FlowRule>(rule: &R, near: Pool, dir: Dir, pace: Pace) -> Share
     requires { Kept near }
-    ensures across { result.across ≡ across_by (meaning rule.now) pace.time pace.width dir (face_at_wall dir near) }
-    ensures along { result.along ≡ along_by (meaning rule.now) pace.time pace.width dir (face_at_wall dir near) }
+    ensures across { result.across ≡ across_by (R.meaning rule.now) pace.time pace.width dir (face_at_wall dir near) }
+    ensures along { result.along ≡ along_by (R.meaning rule.now) pace.time pace.width dir (face_at_wall dir near) }
     ensures small { SmallShare result }
 {
     let side = side_at(near, near.bed, dir);

@@ -14,10 +14,10 @@ use flow::side::Side;
 /// What a face of `length` squares between two sides does in a step, by a rule.
 pub fn cross<R: FlowRule>(rule: &R, one: Side, two: Side, length: u32, pace: Pace) -> Crossing
     requires { length ≤ 64 }
-    ensures wish { result.wish ≡ wish_of (meaning rule.now) pace.width pace.time length (state_of one) (state_of two) }
-    ensures fall { result.fall ≡ fall_of (meaning rule.now) pace.width pace.time length (state_of one) (state_of two) }
-    ensures rise { result.rise ≡ rise_of (meaning rule.now) pace.width pace.time length (state_of one) (state_of two) }
-    ensures drift { result.drift ≡ drift_of (meaning rule.now) pace.width pace.time length (state_of one) (state_of two) }
+    ensures wish { result.wish ≡ wish_of (R.meaning rule.now) pace.width pace.time length (state_of one) (state_of two) }
+    ensures fall { result.fall ≡ fall_of (R.meaning rule.now) pace.width pace.time length (state_of one) (state_of two) }
+    ensures rise { result.rise ≡ rise_of (R.meaning rule.now) pace.width pace.time length (state_of one) (state_of two) }
+    ensures drift { result.drift ≡ drift_of (R.meaning rule.now) pace.width pace.time length (state_of one) (state_of two) }
     ensures small { Small result.wish result.fall result.rise result.drift }
 {
     let flux = capped(rule, one, two);
@@ -31,9 +31,9 @@ pub fn cross<R: FlowRule>(rule: &R, one: Side, two: Side, length: u32, pace: Pac
 
 /// A rule's answer, within the largest caps that a rule can have.
 fn capped<R: FlowRule>(rule: &R, one: Side, two: Side) -> Flux
-    ensures flow { result.flow ≡ (meaning rule.now).flow (state_of one) (state_of two) }
-    ensures push { result.push ≡ (meaning rule.now).push (state_of one) (state_of two) }
-    ensures drift { result.drift ≡ (meaning rule.now).drift (state_of one) (state_of two) }
+    ensures flow { result.flow ≡ (R.meaning rule.now).flow (state_of one) (state_of two) }
+    ensures push { result.push ≡ (R.meaning rule.now).push (state_of one) (state_of two) }
+    ensures drift { result.drift ≡ (R.meaning rule.now).drift (state_of one) (state_of two) }
     ensures flow_cap { unsigned_abs result.flow ≤ 1200000000 }
     ensures push_cap { unsigned_abs result.push ≤ 25000000000000 }
     ensures drift_cap { unsigned_abs result.drift ≤ 25000000000000 }

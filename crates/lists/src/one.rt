@@ -37,7 +37,7 @@ fn step_in<R: FlowRule>(
     rule: &R,
     entries: usize,
 ) -> Result<u64, Refusal>
-    ensures done { (replied result, basin_of head levels.now beds.now leaves.new) ≡ performed (a_step time (meaning rule.now) (min entries (length work.old))) (basin_of head levels.now beds.now leaves.old) }
+    ensures done { (replied result, basin_of head levels.now beds.now leaves.new) ≡ performed (a_step time (R.meaning rule.now) (min entries (length work.old))) (basin_of head levels.now beds.now leaves.old) }
     ensures work { work.new ≡ work_after (replied result) (take entries work.old) ++ drop entries work.old }
 {
     let count = entries.min(work.len());
@@ -53,7 +53,7 @@ pub fn perform<R: FlowRule + Copy>(
     work: &mut [Leaf],
     call: Call<R>,
 ) -> Result<u64, Refusal>
-    ensures done { (replied result, basin_of head.new levels.new beds.now leaves.new) ≡ performed (call_of meaning (length work.old) call) (basin_of head.old levels.old beds.now leaves.old) }
+    ensures done { (replied result, basin_of head.new levels.new beds.now leaves.new) ≡ performed (call_of R.meaning (length work.old) call) (basin_of head.old levels.old beds.now leaves.old) }
     ensures work { work.new ≡ work_after_call call (replied result) work.old }
 {
     match call {

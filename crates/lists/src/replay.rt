@@ -24,8 +24,8 @@ pub fn replay<R: FlowRule + Copy>(
     work: &mut [Leaf],
     entries: &mut [Entry<R>],
 )
-    ensures run { Performed meaning entries.old entries.new work.old work.new (basin_of head.old levels.old beds.now leaves.old) (basin_of head.new levels.new beds.now leaves.new) }
-    ensures lawful { ValidBasin (basin_of head.old levels.old beds.now leaves.old) → RunsWell (basin_of head.old levels.old beds.now leaves.old) (calls_of meaning (length work.old) entries.old) }
+    ensures run { Performed R.meaning entries.old entries.new work.old work.new (basin_of head.old levels.old beds.now leaves.old) (basin_of head.new levels.new beds.now leaves.new) }
+    ensures lawful { ValidBasin (basin_of head.old levels.old beds.now leaves.old) → RunsWell (basin_of head.old levels.old beds.now leaves.old) (calls_of R.meaning (length work.old) entries.old) }
     ensures always { AllRunsWell }
 {
     for i in 0..entries.len() {

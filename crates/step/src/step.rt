@@ -29,7 +29,7 @@ fn advance<R: FlowRule>(
     requires valid { ValidBasin (basin_of head levels.now beds.now leaves.old) }
     requires width { pace.width ≡ head.width }
     requires work { length work.old ≡ 2 ^ head.levels * 2 ^ head.levels }
-    ensures step { (replied result, basin_of head levels.now beds.now leaves.new) ≡ perform (a_step pace.time (meaning rule.now) (length work.old)) (basin_of head levels.now beds.now leaves.old) }
+    ensures step { (replied result, basin_of head levels.now beds.now leaves.new) ≡ perform (a_step pace.time (R.meaning rule.now) (length work.old)) (basin_of head levels.now beds.now leaves.old) }
     ensures late { work_after (replied result) work.old ≡ replicate (length work.old) dry }
 {
     if too_fast(head, levels, leaves, pace.time) {
@@ -55,7 +55,7 @@ pub fn step<R: FlowRule>(
     time: u32,
     rule: &R,
 ) -> Result<u64, Refusal>
-    ensures step { (replied result, basin_of head levels.now beds.now leaves.new) ≡ perform (a_step time (meaning rule.now) (length work.old)) (basin_of head levels.now beds.now leaves.old) }
+    ensures step { (replied result, basin_of head levels.now beds.now leaves.new) ≡ perform (a_step time (R.meaning rule.now) (length work.old)) (basin_of head levels.now beds.now leaves.old) }
     ensures work { work.new ≡ work_after (replied result) work.old }
 {
     if work.len() != head.squares() {

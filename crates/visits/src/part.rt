@@ -47,7 +47,7 @@ pub fn departure_of<R: FlowRule>(
     requires lies { Lies head.levels block }
     requires leaf { LeafAt head.levels levels.now (as_block block) }
     requires around { Around head.levels levels.now (as_block block) sides }
-    ensures value { result ≡ departure_from (meaning rule.now) pace.time (tree (view (basin_of head levels.now beds.now leaves.now))) (as_block block) }
+    ensures value { result ≡ departure_from (R.meaning rule.now) pace.time (tree (view (basin_of head levels.now beds.now leaves.now))) (as_block block) }
     ensures small { SmallDeparture result }
 {
     let near = pool(head, beds, leaves, block);

@@ -50,9 +50,9 @@ pub fn visit<R: FlowRule>(
     requires leaf { LeafAt head.levels levels.now (as_block block) }
     requires full { length work.old ≡ 2 ^ head.levels * 2 ^ head.levels }
     requires room { Room head.levels levels.now work.old 1400000000 }
-    requires enough { out_of (meaning rule.now) pace.time (tree (view (basin_of head levels.now beds.now leaves.now))) (as_block block) ≤ (held head.levels work.old (as_block block)).water }
-    ensures moved { result ≡ out_of (meaning rule.now) pace.time (tree (view (basin_of head levels.now beds.now leaves.now))) (as_block block) }
-    ensures visited { AllVisited head.levels levels.now (meaning rule.now) pace.time (tree (view (basin_of head levels.now beds.now leaves.now))) (as_block block) work.old work.new }
+    requires enough { out_of (R.meaning rule.now) pace.time (tree (view (basin_of head levels.now beds.now leaves.now))) (as_block block) ≤ (held head.levels work.old (as_block block)).water }
+    ensures moved { result ≡ out_of (R.meaning rule.now) pace.time (tree (view (basin_of head levels.now beds.now leaves.now))) (as_block block) }
+    ensures visited { AllVisited head.levels levels.now (R.meaning rule.now) pace.time (tree (view (basin_of head levels.now beds.now leaves.now))) (as_block block) work.old work.new }
 {
     let around = sides(head, levels, block);
     let departure = departure_of(rule, head, levels, beds, leaves, block, around, pace);

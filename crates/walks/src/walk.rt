@@ -25,8 +25,8 @@ pub fn walk<R: FlowRule>(
     requires valid { ValidBasin (basin_of head levels.now beds.now leaves.now) }
     requires width { pace.width ≡ head.width }
     requires start { work.old ≡ leaves.now }
-    ensures moved { result ≡ amount_moved (meaning rule.now) pace.time (view (basin_of head levels.now beds.now leaves.now)) }
-    ensures walked { Walked (meaning rule.now) pace.time (basin_of head levels.now beds.now leaves.now) (2 ^ head.levels * 2 ^ head.levels) work.new }
+    ensures moved { result ≡ amount_moved (R.meaning rule.now) pace.time (view (basin_of head levels.now beds.now leaves.now)) }
+    ensures walked { Walked (R.meaning rule.now) pace.time (basin_of head levels.now beds.now leaves.now) (2 ^ head.levels * 2 ^ head.levels) work.new }
 {
     let mut moved: u64 = 0;
     for i in 0..head.squares() {

@@ -19,8 +19,8 @@ read_node-returns-in_err-leaf t c =
     let e = node_leaf c.args.spot.height c.args.bytes.now c.args.at _ _ c.args.spot.side _ c.in_ok-mark.ensures c.if-mark-eq-LEAF.true c.requires.side_is c.in_err-leaf.ensures in
     record { next = rw e (search rules); levels = drawn_err _ _ _ _ _ _ e; leaves = drawn_err _ _ _ _ _ _ e }
 
-pub read_node_read_quarters-requires : goal.read_node_read_quarters-requires
-read_node_read_quarters-requires t c =
+pub read_node-read_quarters-requires : goal.read_node-read_quarters-requires
+read_node-read_quarters-requires t c =
     let h = half_side c.args.spot.height c.args.spot.side c.if-spot-gt0.true c.requires.side_is in (
       search rules,
       record { deep = omega arith; few = c.requires.few; side_is = h.0; in_levels = rw h.1 c.requires.in_levels; in_leaves = rw h.1 c.requires.in_leaves },
