@@ -50,3 +50,8 @@ returns-in-West g c =
         along = abs_back c.cross-back.result.drift _ fs a.small.drift_small;
       };
     }
+
+pub outward-requires-in-West : goal.outward-requires-in-West
+outward-requires-in-West g c =
+    let fw : SFits w64 c.cross-back.result.wish = search rules in
+    abs_neg_back c.cross-back.result.wish _ fw c.cross-back.ensures.small.wish_small (omega arith)

@@ -43,8 +43,8 @@ returns-then-not-all_between c =
     c.in_ok-spot.ensures c.if-spot-head.false _ _ c.block_window-block.ensures c.ring_window-ring.ensures _ c.all_between.ensures
     c.if-not-all_between.true
 
-pub slice-copy-out·leaf : goal.slice-copy-out·leaf
-slice-copy-out·leaf c =
+pub slice_copy_out-leaf : goal.slice_copy_out-leaf
+slice_copy_out-leaf c =
     let f = located_fits (basin_of c.args.head.now c.args.levels.now c.args.beds.now c.args.leaves.now) _ _ _ c.in_ok-spot.ensures in
     omega (arith, f.inside, f.all_leaves)
 
@@ -118,7 +118,7 @@ overflow_add-head c = record { fits = omega (arith, c.in_ok-division.ensures.few
 pub invariant_of-head : goal.invariant_of-head
 invariant_of-head c =
     let h = c.in_ok-spot.ensures.valid.head in
-    ((h.levels, h.width_least, h.width_most, c.in_ok-division.ensures.few), tt)
+    record { in_range = (h.levels, h.width_least, h.width_most, c.in_ok-division.ensures.few) }
 
 pub returns : goal.returns
 returns c =
