@@ -83,17 +83,17 @@ loop-i-preserved g c =
           let at : corner_entry L (as_block c.home-block.result) ≡ i = sym c.corner.ensures.value ∙ w.if-corner-i.true in
           let m = sum_more L levels f i (sym same ∙ at) in
           let o = w.visit.ensures.moved ∙ ap f c.home-block.ensures in
-          let mi = w.moved_is in (
+          let mi = w.moved-is in (
             search rules,
-            subst Q (sym w.work_is) (walked_more b ok R T i c.loop-i.work w.visit.new.work (as_block c.home-block.result) here at inv.1 w.visit.ensures.visited),
+            subst Q (sym w.work-is) (walked_more b ok R T i c.loop-i.work w.visit.new.work (as_block c.home-block.result) here at inv.1 w.visit.ensures.visited),
             omega (arith, m, o, mi, inv.2),
             omega (arith, mi, inv.3, w.visit.type_inv),
           )
       | else-corner-i w ↦
           let n : corner_entry L (home_at L levels i) ≡ i → ⊥ = λ h. w.if-corner-i.false (c.corner.ensures.value ∙ same ∙ h) in
           let m = sum_skip L levels f i n in
-          let mi = w.moved_is in
-          (search rules, subst Q (sym w.work_is) (walked_skip b ok R T i c.loop-i.work n inv.1), omega (arith, m, mi, inv.2), omega (arith, mi, inv.3))
+          let mi = w.moved-is in
+          (search rules, subst Q (sym w.work-is) (walked_skip b ok R T i c.loop-i.work n inv.1), omega (arith, m, mi, inv.2), omega (arith, mi, inv.3))
     ]
 
 pub returns : goal.returns
