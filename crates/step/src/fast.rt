@@ -3,7 +3,7 @@ ghost use Rattle.std.specs.Prelude.{◌≡◌, ◌+◌, ◌*◌, ◌/◌, ◌^�
 ghost use Rattle.basin.specs.Records.{InRange};
 ghost use Rattle.basin.specs.Squares.{some_square};
 ghost use Rattle.blocks.specs.Places.{Shallow};
-ghost use Rattle.runs.specs.Roots.{root as root_of};
+ghost use Rattle.runs.specs.Roots.{square_root as root_of};
 ghost use Rattle.step.specs.Speeds.{fast, fast_in, AllInRange};
 
 use basin::head::Head;

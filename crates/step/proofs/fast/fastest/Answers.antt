@@ -1,6 +1,5 @@
 -- Depths and speeds are those of a record in range.
 use Rattle.std.proofs.Common.{◌≡◌, ◌*◌, ◌/◌, ◌≤◌, max, nat_abs, refl, ap, ◌∙◌, arith, w64, SFits, rules}
-use Rattle.runs.proofs.Rooted.{root_agrees}
 use Rattle.flow.specs.Whole.{back}
 use Rattle.step.proofs.Paces.{depth_most, speeds_most}
 use Rattle.step.proofs.fast.fastest.Goals as goal
@@ -15,10 +14,8 @@ returns c =
     let fn : SFits w64 l.north = search rules in
     let e = c.unsigned_abs.ensures.value ∙ ap nat_abs (back _ _ fe refl) in
     let n = c.unsigned_abs-2.ensures.value ∙ ap nat_abs (back _ _ fn refl) in
-    let s : c.max_speed.result ≡ max (nat_abs l.east / l.water) (nat_abs l.north / l.water) =
-    c.max_speed.ensures ∙ ap (λ a. max (a / l.water) (c.unsigned_abs-2.result / l.water)) e ∙ ap (λ a. max (nat_abs l.east / l.water) (a / l.water)) n in
+    let s : c.max-speed.result ≡ max (nat_abs l.east / l.water) (nat_abs l.north / l.water) =
+    c.max-speed.ensures ∙ ap (λ a. max (a / l.water) (c.unsigned_abs-2.result / l.water)) e ∙ ap (λ a. max (nat_abs l.east / l.water) (a / l.water)) n in
     let most = speeds_most (c.args.side * c.args.side) l c.requires.range in
     let high : max (nat_abs l.east / l.water) (nat_abs l.north / l.water) ≤ 10000 = omega (arith, most.0, most.1) in
-    let d = depth_most (c.args.side * c.args.side) l c.requires.range in
-    let r = c.root.ensures ∙ root_agrees (9810 * (l.water / (c.args.side * c.args.side))) (omega (arith, d)) in
-    record { value = omega (arith, s, r); most = omega (arith, s, high, c.root.type_inv) }
+    record { value = omega (arith, s, c.root.ensures); most = omega (arith, s, high, c.root.type_inv) }
