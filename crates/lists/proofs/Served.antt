@@ -1,7 +1,7 @@
 -- The entries, the basin and the work table once the first calls of a list have been performed.
 use Rattle.std.proofs.Common.{◌≡◌, ℕ, zero, suc, ◌+◌, ◌<◌, ◌≤◌, List, [], ◌∷◌, map, length, get_or, set, Ok, Err, Result, sym, refl, ap, ◌∙◌, add-one, arith}
 use Rattle.std.proofs.lemmas.List.{get_or_default}
-use Rattle.std.specs.List.{AllByRecursion as All}
+use Rattle.std.specs.List.{AllByRecursion}
 use Rattle.basin.specs.declared.leaf.Leaf.{Leaf}
 use Rattle.basin.specs.declared.refusal.Refusal.{Refusal}
 use Rattle.basin.specs.Basins.{Basin}
@@ -28,7 +28,7 @@ replied_back (granted a) = refl
 replied_back (refused a) = refl
 
 -- every step of a list goes by a rule that keeps the laws, where all values of A do
-pub all_ruled : {A : Type 0} (meaning : A → Rule) (work : ℕ) → ((a : A) → Lawful (meaning a)) → (es : List (Entry A)) → All Ruled (calls_of meaning work es)
+pub all_ruled : {A : Type 0} (meaning : A → Rule) (work : ℕ) → ((a : A) → Lawful (meaning a)) → (es : List (Entry A)) → AllByRecursion Ruled (calls_of meaning work es)
 all_ruled meaning work law [] = tt
 all_ruled {A = A} meaning work law (e ∷ es) = (ruled e.call, all_ruled meaning work law es)
   where

@@ -1,7 +1,7 @@
 -- Each call on a valid basin leaves a valid basin and keeps the water, and so does each list of calls.
 use Rattle.std.proofs.Common.{◌≡◌, ℕ, suc, ◌+◌, ◌-◌, ◌^◌, ◌<◌, ◌≤◌, false, cond, ◌&&◌, ◌||◌, eqb, ltb, leb, List, [], ◌∷◌, Ok, Err, Result, sym, refl, ap, ◌∙◌, arith}
 use Rattle.std.proofs.lemmas.Bool.{ltb-true, ltb-false}
-use Rattle.std.specs.List.{AllByRecursion as All}
+use Rattle.std.specs.List.{AllByRecursion}
 use Rattle.basin.specs.declared.refusal.Refusal.{Refusal}
 use Rattle.basin.specs.declared.refusal.Refusal.TheVariants.{TableLength, NotABasin}
 use Rattle.basin.specs.Basins.{Heads, ValidBasin, basin, tables, Basin, side, view, Valid}
@@ -231,12 +231,12 @@ module _ (b : Basin) (right : ValidBasin b) (c : Call) where
 
 -- ---- lists of calls
 -- every call leaves a valid basin
-pub stays_valid : (b : Basin) → ValidBasin b → (cs : List Call) → All Ruled cs → All (λ r. ValidBasin r.1) (run cs b)
+pub stays_valid : (b : Basin) → ValidBasin b → (cs : List Call) → AllByRecursion Ruled cs → AllByRecursion (λ r. ValidBasin r.1) (run cs b)
 stays_valid b r [] l = tt
 stays_valid b r (c ∷ cs) l = (call_valid b r c, stays_valid (perform c b).1 (call_valid b r c) cs l.1)
 
 -- water is neither made nor lost
-pub keeps_all_water : (b : Basin) → ValidBasin b → (cs : List Call) → All Ruled cs
+pub keeps_all_water : (b : Basin) → ValidBasin b → (cs : List Call) → AllByRecursion Ruled cs
     → total (last b (run cs b)) + summed drawn cs (run cs b) ≡ total b + summed poured cs (run cs b)
 keeps_all_water b r [] l = refl
 keeps_all_water b r (c ∷ cs) l =

@@ -1,6 +1,6 @@
 -- All that holds of every run.
 use Rattle.std.proofs.Common.{ℕ, ◌/◌, ◌%◌, ◌≤◌, List, [], ◌∷◌, map}
-use Rattle.std.specs.List.{AllByRecursion as All}
+use Rattle.std.specs.List.{AllByRecursion}
 use Rattle.basin.specs.Basins.{Basin, view}
 use Rattle.basin.specs.Blocks.{Block}
 use Rattle.runs.specs.Calls.{run}
@@ -12,7 +12,7 @@ use Rattle.runs.proofs.Basins.{stays_valid, keeps_all_water, gives_what_it_has}
 use Rattle.runs.proofs.StandRuns.{stands_still, stands_once}
 use Rattle.runs.proofs.TurnRuns.{turns_with}
 
-every : (P : Basin → Type 0) → ((b : Basin) → P b) → (bs : List Basin) → All P bs
+every : (P : Basin → Type 0) → ((b : Basin) → P b) → (bs : List Basin) → AllByRecursion P bs
 every P f [] = tt
 every P f (b ∷ bs) = (f b, every P f bs)
 

@@ -1,7 +1,7 @@
 -- The lowest refusal is the answer, a refusal changes nothing, and what is no basin is refused.
 use Rattle.std.proofs.Common.{◌≡◌, ℕ, ◌≤◌, Bool, true, false, cond, ◌&&◌, leb, List, [], ◌∷◌, Ok, Err, Result, refl, ap, inl, inr, arith}
 use Rattle.std.proofs.lemmas.Bool.{cases_Bool, leb-true}
-use Rattle.std.specs.List.{AllByRecursion as All}
+use Rattle.std.specs.List.{AllByRecursion}
 use Rattle.basin.specs.declared.refusal.Refusal.{Refusal}
 use Rattle.basin.specs.declared.refusal.Refusal.TheVariants.{TableLength, NotABasin}
 use Rattle.basin.specs.Basins.{Basin, side, view}
@@ -12,7 +12,7 @@ use Rattle.basin.proofs.Tests.{and_true}
 use Rattle.runs.specs.Calls.{Call, pour, draw, settle, step, split, merge, refused, Test, first_of, tests, short_work, all_tests, verdict, outcome}
 use Rattle.runs.specs.Refusing.{RefusedBy, RefusesLowest, RefusalKeeps, RefusesFlaws}
 
-pub weaken : {A : Type 0} (P Q : A → Type 0) → ((x : A) → P x → Q x) → (xs : List A) → All P xs → All Q xs
+pub weaken : {A : Type 0} (P Q : A → Type 0) → ((x : A) → P x → Q x) → (xs : List A) → AllByRecursion P xs → AllByRecursion Q xs
 weaken P Q f [] p = tt
 weaken P Q f (x ∷ xs) p = (f x p.0, weaken P Q f xs p.1)
 
@@ -30,7 +30,7 @@ tests_ordered (step T R work) b = refl
 tests_ordered (split x y) b = refl
 tests_ordered (merge x y) b = refl
 
-at_least : (n : ℕ) (ts : List Test) → ordered n ts ≡ true → All (λ t. n ≤ number_of t.refusal) ts
+at_least : (n : ℕ) (ts : List Test) → ordered n ts ≡ true → AllByRecursion (λ t. n ≤ number_of t.refusal) ts
 at_least n [] o = tt
 at_least n (t ∷ ts) o =
     let p = and_true (leb n (number_of t.refusal)) (ordered (number_of t.refusal) ts) o in
@@ -44,7 +44,7 @@ abbrev Struck : Result (Unit {0}) Refusal → ℕ → Type 0
 Struck (Ok t) n = ⊥
 Struck (Err r) n = number_of r ≤ n
 
-lowest : (n : ℕ) (ts : List Test) → ordered n ts ≡ true → All (λ t. t.strikes ≡ true → Struck (first_of ts) (number_of t.refusal)) ts
+lowest : (n : ℕ) (ts : List Test) → ordered n ts ≡ true → AllByRecursion (λ t. t.strikes ≡ true → Struck (first_of ts) (number_of t.refusal)) ts
 lowest n [] o = tt
 lowest n (t ∷ ts) o =
     let p = and_true (leb n (number_of t.refusal)) (ordered (number_of t.refusal) ts) o in
@@ -53,9 +53,9 @@ lowest n (t ∷ ts) o =
       go t.strikes (at_least m ts p.1) (lowest m ts p.1),
     )
   where
-    go : (s : Bool) → All (λ u. number_of t.refusal ≤ number_of u.refusal) ts
-        → All (λ u. u.strikes ≡ true → Struck (first_of ts) (number_of u.refusal)) ts
-        → All (λ u. u.strikes ≡ true → Struck (cond s (Err t.refusal) (first_of ts)) (number_of u.refusal)) ts
+    go : (s : Bool) → AllByRecursion (λ u. number_of t.refusal ≤ number_of u.refusal) ts
+        → AllByRecursion (λ u. u.strikes ≡ true → Struck (first_of ts) (number_of u.refusal)) ts
+        → AllByRecursion (λ u. u.strikes ≡ true → Struck (cond s (Err t.refusal) (first_of ts)) (number_of u.refusal)) ts
     go true a l = weaken (λ (u : Test). number_of t.refusal ≤ number_of u.refusal) _ (λ u h s. h) ts a
     go false a l = l
 

@@ -1,6 +1,6 @@
 -- Lists of steps, splits and merges leave standing water standing.
 use Rattle.std.proofs.Common.{◌≡◌, ℕ, suc, pred, ◌*◌, ◌^◌, ◌<◌, cond, not, ◌&&◌, ◌||◌, eqb, leb, List, [], ◌∷◌, ◌++◌, length, drop, Ok, Err, Result, sym, refl, ap, ◌∙◌, subst, arith}
-use Rattle.std.specs.List.{AllByRecursion as All}
+use Rattle.std.specs.List.{AllByRecursion}
 use Rattle.basin.specs.declared.leaf.Leaf.{Leaf}
 use Rattle.basin.specs.declared.refusal.Refusal.{Refusal}
 use Rattle.basin.specs.Basins.{Basin, view, Valid, ValidBasin}
@@ -101,8 +101,8 @@ call_stands b right st c l n = go (verdict c b) refl
     go (Err i) e = (st, record { same_size = refl; wet_stays = λ x y a b h. (h, refl); dry_stays = λ x y a b h. h })
 
 -- standing water stays
-pub stands_still : (b : Basin) → ValidBasin b → Stands (view b) → (cs : List Call) → All Ruled cs → All CalmCall cs
-    → All (λ r. Stands (view r.1) × Alike (view b) (view r.1)) (run cs b)
+pub stands_still : (b : Basin) → ValidBasin b → Stands (view b) → (cs : List Call) → AllByRecursion Ruled cs → AllByRecursion CalmCall cs
+    → AllByRecursion (λ r. Stands (view r.1) × Alike (view b) (view r.1)) (run cs b)
 stands_still b right st [] l n = tt
 stands_still b right st (c ∷ cs) l n =
     let h = call_stands b right st c l.0 n.0 in
@@ -124,7 +124,7 @@ behind : (front back : List Call) (b : Basin) → drop (length front) (run (fron
 behind [] back b = refl
 behind (c ∷ front) back b = behind front back (perform c b).1
 
-all_front : (P : Call → Type 0) (front back : List Call) → All P (front ++ back) → All P front × All P back
+all_front : (P : Call → Type 0) (front back : List Call) → AllByRecursion P (front ++ back) → AllByRecursion P front × AllByRecursion P back
 all_front P [] back h = (tt, h)
 all_front P (c ∷ front) back h = let r = all_front P front back h.1 in ((h.0, r.0), r.1)
 
@@ -132,12 +132,12 @@ last_valid : (cs : List Call) (b : Basin) → ValidBasin b → ValidBasin (last 
 last_valid [] b right = right
 last_valid (c ∷ cs) b right = last_valid cs (perform c b).1 (call_valid b right c)
 
-pub stands_once : (b : Basin) → ValidBasin b → (cs : List Call) → All Ruled cs → (front back : List Call) → cs ≡ front ++ back
-    → Stands (view (last b (run front b))) → All CalmCall back
-    → All (λ r. Stands (view r.1) × Alike (view (last b (run front b))) (view r.1)) (drop (length front) (run cs b))
+pub stands_once : (b : Basin) → ValidBasin b → (cs : List Call) → AllByRecursion Ruled cs → (front back : List Call) → cs ≡ front ++ back
+    → Stands (view (last b (run front b))) → AllByRecursion CalmCall back
+    → AllByRecursion (λ r. Stands (view r.1) × Alike (view (last b (run front b))) (view r.1)) (drop (length front) (run cs b))
 stands_once b right cs l front back e st n =
     let from = last b (run front b) in
-    let ruled = all_front Ruled front back (subst (All Ruled) e l) in
-    subst (All (λ r. Stands (view r.1) × Alike (view (last b (run front b))) (view r.1)))
+    let ruled = all_front Ruled front back (subst (AllByRecursion Ruled) e l) in
+    subst (AllByRecursion (λ r. Stands (view r.1) × Alike (view (last b (run front b))) (view r.1)))
     (sym (ap (λ ds. drop (length front) (run ds b)) e ∙ behind front back b))
     (stands_still from (last_valid front b right) st back ruled.1 n)

@@ -2,7 +2,7 @@
 use Rattle.std.proofs.Common.{◌≡◌, ℕ, zero, suc, pred, ◌+◌, ◌-◌, ◌^◌, ◌<◌, ◌≤◌, Bool, true, false, cond, not, ◌&&◌, ◌||◌, eqb, ltb, List, [], ◌∷◌, map, Ok, Err, Result, sym, refl, ap, ◌∙◌, subst₂, arith}
 use mathlib.Core.Path.{fun_ext}
 use Rattle.std.proofs.lemmas.Bool.{ltb-true, eqb-false}
-use Rattle.std.specs.List.{AllByRecursion as All}
+use Rattle.std.specs.List.{AllByRecursion}
 use Rattle.basin.specs.declared.leaf.Leaf.{Leaf}
 use Rattle.basin.specs.declared.refusal.Refusal.{Refusal}
 use Rattle.basin.specs.declared.refusal.Refusal.TheVariants.{OffGrid, TableLength}
@@ -376,7 +376,7 @@ side_stays b c = go (verdict c b) c
     go (Ok o) (merge x y) = refl
     go (Err o) c = refl
 
-runs : (G : Basin → Basin) (g : ℕ → Place → Place) → Commutes G g → (b : Basin) → ValidBasin b → (cs : List Call) → All Ruled cs
+runs : (G : Basin → Basin) (g : ℕ → Place → Place) → Commutes G g → (b : Basin) → ValidBasin b → (cs : List Call) → AllByRecursion Ruled cs
     → run (map (turned_call (g (side b.head))) cs) (G b) ≡ map (λ q. (q.0, G q.1)) (run cs b)
 runs G g cg b r [] l = refl
 runs G g cg b r (c ∷ cs) l =
@@ -389,6 +389,6 @@ runs G g cg b r (c ∷ cs) l =
     ∙ runs G g cg b₁ (call_valid b r c) cs l.1 in
     λ i. e i ∷ rest i
 
-pub turns_with : (b : Basin) → ValidBasin b → (cs : List Call) → All Ruled cs → (f r : ℕ)
+pub turns_with : (b : Basin) → ValidBasin b → (cs : List Call) → AllByRecursion Ruled cs → (f r : ℕ)
     → run (map (turned_call (turn_place (side b.head) f r)) cs) (turn_basin f r b) ≡ map (λ q. (q.0, turn_basin f r q.1)) (run cs b)
 turns_with b right cs l f r = runs (turn_basin f r) (λ n. turn_place n f r) (all_turns f r) b right cs l

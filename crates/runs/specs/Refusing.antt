@@ -1,6 +1,6 @@
 -- What holds of refusals, on any head and tables.
 use Rattle.std.specs.Prelude.{◌≡◌, ℕ, ◌≤◌, true, ◌⊎◌}
-use Rattle.std.specs.List.{AllByRecursion as All}
+use Rattle.std.specs.List.{AllByRecursion}
 use Rattle.basin.specs.declared.refusal.Refusal.{Refusal}
 use Rattle.basin.specs.declared.refusal.Refusal.TheVariants.{TableLength, NotABasin}
 use Rattle.basin.specs.Basins.{Basin, ValidBasin}
@@ -14,7 +14,7 @@ RefusedBy (refused r) n = number_of r ≤ n
 
 -- whichever test strikes, the call is refused, and by no higher number
 abbrev pub RefusesLowest : Type 0
-RefusesLowest = (c : Call) (b : Basin) → All (λ t. t.strikes ≡ true → RefusedBy (perform c b).0 (number_of t.refusal)) (all_tests c b)
+RefusesLowest = (c : Call) (b : Basin) → AllByRecursion (λ t. t.strikes ≡ true → RefusedBy (perform c b).0 (number_of t.refusal)) (all_tests c b)
 
 -- a refused call leaves head and tables as they were
 abbrev pub RefusalKeeps : Type 0

@@ -1,6 +1,6 @@
 -- What holds of every run: a list of calls on a valid basin.
 use Rattle.std.specs.Prelude.{◌≡◌, ℕ, ◌+◌, ◌*◌, ◌/◌, ◌%◌, ◌<◌, ◌≤◌, true, List, [], ◌∷◌, ◌++◌, map, length, drop, pos}
-use Rattle.std.specs.List.{AllByRecursion as All}
+use Rattle.std.specs.List.{AllByRecursion}
 use Rattle.basin.specs.Basins.{Basin, side, view, ValidBasin}
 use Rattle.basin.specs.Blocks.{Block}
 use Rattle.basin.specs.Squares.{area, bed_sum, water, surface, edge}
@@ -81,24 +81,24 @@ CalmCall (merge x y) = Unit {0}
 -- ---- one basin and one list of calls
 pub record RunsWell (b : Basin) (cs : List Call) : Type 0 where
   -- every call leaves a valid basin
-  pub valid : All (λ r. ValidBasin r.1) (run cs b)
+  pub valid : AllByRecursion (λ r. ValidBasin r.1) (run cs b)
   -- water and loose account afterwards, with what was drawn, are those before with what was poured
   pub water : total (last b (run cs b)) + summed drawn cs (run cs b) ≡ total b + summed poured cs (run cs b)
   -- in no step does a leaf give more than it held, in the basin given or in one that the calls leave
-  pub gives : All (λ a. (R : Rule) (T : ℕ) (c : Block) → out_of R T (tree (view a)) c ≤ ((tree (view a)).leaf c).water) (b ∷ map (λ r. r.1) (run cs b))
+  pub gives : AllByRecursion (λ a. (R : Rule) (T : ℕ) (c : Block) → out_of R T (tree (view a)) c ≤ ((tree (view a)).leaf c).water) (b ∷ map (λ r. r.1) (run cs b))
   -- standing water stays through steps, splits and merges
-  pub still : Stands (view b) → All CalmCall cs → All (λ r. Stands (view r.1) × Alike (view b) (view r.1)) (run cs b)
+  pub still : Stands (view b) → AllByRecursion CalmCall cs → AllByRecursion (λ r. Stands (view r.1) × Alike (view b) (view r.1)) (run cs b)
   -- from the moment it stands, water stays through steps, splits and merges: where the calls are some in front and some behind, and water stands
   -- in the basin that those in front leave, it stands as it did there after each of those behind
-  pub still_from : (front back : List Call) → cs ≡ front ++ back → Stands (view (last b (run front b))) → All CalmCall back
-      → All (λ r. Stands (view r.1) × Alike (view (last b (run front b))) (view r.1)) (drop (length front) (run cs b))
+  pub still_from : (front back : List Call) → cs ≡ front ++ back → Stands (view (last b (run front b))) → AllByRecursion CalmCall back
+      → AllByRecursion (λ r. Stands (view r.1) × Alike (view (last b (run front b))) (view r.1)) (drop (length front) (run cs b))
   -- turned calls on the turned basin: the same replies, and the turned basin after each call
   pub turns : (t : ℕ) → t < 8
       → run (map (turned_call (turn_place (side b.head) (t / 4) (t % 4))) cs) (turn_basin (t / 4) (t % 4) b)
       ≡ map (λ q. (q.0, turn_basin (t / 4) (t % 4) q.1)) (run cs b)
 
 abbrev pub AllRunsWell : Type 0
-AllRunsWell = (b : Basin) → ValidBasin b → (cs : List Call) → All Ruled cs → RunsWell b cs
+AllRunsWell = (b : Basin) → ValidBasin b → (cs : List Call) → AllByRecursion Ruled cs → RunsWell b cs
 
 -- what crosses all faces in a step is what leaves all leaves
 abbrev pub CrossesWhatLeaves : Type 0
