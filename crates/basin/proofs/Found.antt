@@ -1,5 +1,5 @@
 -- Whether some square of a grid passes a test.
-use Rattle.std.proofs.Common.{◌≡◌, ℕ, ◌+◌, ◌<◌, ◌≤◌, Bool, true, false, ltb, refl, ap, arith}
+use Rattle.std.proofs.Common.{◌≡◌, ℕ, ◌<◌, Bool, true, false, ltb, refl, ap, arith}
 use Rattle.std.proofs.lemmas.Bool.{ltb-true, ltb-false}
 use Rattle.basin.specs.Sums.{sum_below, grid, only}
 use Rattle.basin.specs.Squares.{some_square, some_pair}

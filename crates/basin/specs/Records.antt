@@ -1,5 +1,5 @@
 -- The record of a leaf, and the ranges of its numbers.
-use Rattle.std.specs.Prelude.{◌≡◌, ℕ, ◌*◌, ◌≤◌, Bool, true, ℤ, pos, nat_le, unsigned_abs}
+use Rattle.std.specs.Prelude.{◌≡◌, ℕ, ◌*◌, Bool, true, ℤ, pos, nat_le, unsigned_abs}
 use Rattle.basin.specs.declared.leaf.Leaf.{Leaf}
 
 abbrev pub dry : Leaf

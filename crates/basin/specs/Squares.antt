@@ -1,5 +1,5 @@
 -- Squares and the leaves that they lie in.
-use Rattle.std.specs.Prelude.{ℕ, ◌+◌, ◌-◌, ◌*◌, ◌/◌, ◌^◌, Bool, ◌&&◌, ◌||◌, ◌==◌, nat_le, nat_lt}
+use Rattle.std.specs.Prelude.{ℕ, ◌+◌, ◌-◌, ◌*◌, ◌/◌, Bool, ◌&&◌, ◌||◌, ◌==◌, nat_le, nat_lt}
 use Rattle.basin.specs.Sums.{grid, only}
 use Rattle.basin.specs.Blocks.{block, block_sum}
 use Rattle.basin.specs.Views.{View, side_of}

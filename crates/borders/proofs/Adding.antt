@@ -1,5 +1,5 @@
 -- Sums of shares, and what is left of a wish.
-use Rattle.std.proofs.Common.{◌≡◌, ℕ, ◌+◌, ◌*◌, ◌/◌, ◌≤◌, ℤ, ◌+ℤ◌, nat_abs, refl, ap, mul-le-mul, arith, w64, SFits, to_z, of_z}
+use Rattle.std.proofs.Common.{◌≡◌, ℕ, ◌*◌, ◌/◌, ◌≤◌, ℤ, ◌+ℤ◌, nat_abs, refl, ap, mul-le-mul, arith, w64, SFits, to_z, of_z}
 use native.Mathlib.Nat.{div-le_of_le-mul}
 use Rattle.std.proofs.lemmas.Int.{ints}
 use Rattle.flow.specs.Whole.{fits, abs_add}

@@ -1,5 +1,5 @@
 -- The basin and the surface number once a leaf has been given its water.
-use Rattle.std.proofs.Common.{◌≡◌, ℕ, ◌+◌, ◌-◌, ◌*◌, ◌/◌, ◌^◌, ◌<◌, ◌≤◌, true, cond, not, List, length, get_or, sym, refl, ap, ◌∙◌, arith}
+use Rattle.std.proofs.Common.{◌≡◌, ℕ, ◌+◌, ◌-◌, ◌*◌, ◌/◌, ◌^◌, ◌≤◌, cond, not, List, length, get_or, sym, refl, ap, ◌∙◌, arith}
 use Rattle.basin.specs.declared.leaf.Leaf.{Leaf}
 use Rattle.basin.specs.Basins.{Basin, basin, tables, side, view}
 use Rattle.basin.specs.Fills.{square}
@@ -8,7 +8,7 @@ use Rattle.basin.specs.Records.{dry, may_hold}
 use Rattle.basin.specs.Squares.{same_block, area, water, bed_sum, surface}
 use Rattle.basin.specs.Sums.{grid}
 use Rattle.basin.specs.Tables.{table, entry}
-use Rattle.basin.specs.Views.{View, side_of}
+use Rattle.basin.specs.Views.{side_of}
 use Rattle.basin.proofs.Fills.{length_square, filled_entry}
 use Rattle.basin.proofs.Sizes.{side_pos, side_times, area_small}
 use Rattle.basin.proofs.Tabled.{tabled, table_entry}

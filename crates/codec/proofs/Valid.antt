@@ -1,14 +1,11 @@
 -- The basin that a file holds is valid.
-use Rattle.std.proofs.Common.{◌≡◌, ℕ, zero, suc, ◌+◌, ◌-◌, ◌*◌, ◌/◌, ◌^◌, ◌<◌, ◌≤◌, Bool, true, false, cond, ◌&&◌, eqb, ltb, leb, ◌⊎◌, List, [], ◌∷◌, ◌++◌, length, get_or, IfOk, Ok, Err, Result, sym, refl, ap, ◌∙◌, inl, inr, ⊎_elim, arith, length-append}
-use Rattle.std.proofs.lemmas.Bool.{leb-true, ltb-false, cases_lt}
+use Rattle.std.proofs.Common.{◌≡◌, ℕ, zero, suc, ◌+◌, ◌-◌, ◌*◌, ◌/◌, ◌^◌, ◌<◌, ◌≤◌, false, cond, ◌&&◌, eqb, ltb, leb, List, [], ◌∷◌, ◌++◌, length, get_or, IfOk, Ok, Err, Result, sym, refl, ap, ◌∙◌, arith, length-append}
+use Rattle.std.proofs.lemmas.Bool.{leb-true, ltb-false}
 use Rattle.basin.specs.declared.head.Head.{Head}
-use Rattle.basin.specs.declared.leaf.Leaf.{Leaf}
-use Rattle.basin.specs.Basins.{Heading, heading, Tables, Basin, basin, side, view, Valid, Heads, Full, ValidBasin}
+use Rattle.basin.specs.Basins.{Heading, heading, Tables, Basin, basin, side, view, Valid, Heads, ValidBasin}
 use Rattle.basin.specs.Flaws.{misfit}
 use Rattle.basin.specs.Records.{dry, InRange}
 use Rattle.basin.specs.Squares.{touch, unbalanced}
-use Rattle.basin.specs.Tables.{table, entry}
-use Rattle.basin.specs.Views.{View, Quadtree}
 use Rattle.basin.proofs.Found.{none_pair}
 use Rattle.basin.proofs.Tabled.{length_table, entry_table}
 use Rattle.basin.proofs.Tests.{and_true, not_and, to_touch}
@@ -22,7 +19,7 @@ use Rattle.nodes.proofs.Forms.{tree_was_written}
 use Rattle.nodes.proofs.Leaves.{leaf_of, one_leaf}
 use Rattle.codec.specs.declared.fault.FileFault.{FileFault}
 use Rattle.codec.specs.declared.fault.FileFault.TheVariants.{Range, Trailing, TableLength}
-use Rattle.codec.specs.Files.{of_number, of_tree, ranged_at, head_at, beds_from, beds_at, body_at, charted, balanced_in, file_at, granted, read_of}
+use Rattle.codec.specs.Files.{of_number, of_tree, ranged_at, head_at, beds_from, beds_at, body_at, charted, file_at, granted, read_of}
 use Rattle.codec.specs.Seen.{seen}
 
 -- ---- numbers in their ranges

@@ -1,5 +1,5 @@
 -- The ways through a file, and what each leaves.
-use Rattle.std.proofs.Common.{◌≡◌, ℕ, ◌+◌, ◌-◌, ◌*◌, ◌^◌, ◌<◌, ◌≤◌, Bool, true, false, cond, not, ◌&&◌, eqb, ◌⊎◌, List, length, IfOk, Ok, Err, Result, sym, refl, ap, ◌∙◌, inl, inr, arith}
+use Rattle.std.proofs.Common.{◌≡◌, ℕ, ◌*◌, Bool, true, false, cond, not, List, length, IfOk, Ok, Err, Result, sym, refl, ap, ◌∙◌, arith}
 use Rattle.std.proofs.lemmas.Bool.{eq-eqb, ne_eqb}
 use Rattle.basin.specs.declared.leaf.Leaf.{Leaf}
 use Rattle.basin.specs.Basins.{Heading, Tables, tables, Basin, basin, side, view}
@@ -19,7 +19,7 @@ use Rattle.nodes.proofs.Forms.{tree_was_written}
 use Rattle.nodes.proofs.Painted.{painted_table}
 use Rattle.codec.specs.declared.fault.FileFault.{FileFault}
 use Rattle.codec.specs.declared.fault.FileFault.TheVariants.{Tree, Trailing, TableLength}
-use Rattle.codec.specs.Files.{head_at, beds_at, of_tree, body_at, charted, balanced_in, file_at, read_of}
+use Rattle.codec.specs.Files.{head_at, beds_at, body_at, charted, balanced_in, file_at, read_of}
 use Rattle.codec.specs.Seen.{whether, Charts}
 
 -- ---- the body

@@ -1,5 +1,5 @@
 -- The basin that a file holds, and what reading it leaves.
-use Rattle.std.specs.Prelude.{ℕ, zero, suc, ◌+◌, ◌-◌, ◌*◌, cond, ◌&&◌, List, [], ◌∷◌, ◌++◌, length, Ok, Err, Result, ◌==◌, nat_le}
+use Rattle.std.specs.Prelude.{ℕ, zero, suc, ◌-◌, ◌*◌, cond, ◌&&◌, List, [], ◌∷◌, ◌++◌, length, Ok, Err, Result, ◌==◌, nat_le}
 use Rattle.basin.specs.Basins.{Heading, Tables, tables, Basin, basin, side, view}
 use Rattle.basin.specs.Flaws.{misfit}
 use Rattle.basin.specs.Squares.{unbalanced}

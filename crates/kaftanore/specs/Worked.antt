@@ -1,5 +1,5 @@
 -- The worked examples, as one statement over the definitions.
-use Rattle.std.specs.Prelude.{◌≡◌, ℕ, List, [], ◌∷◌, Ok, Err}
+use Rattle.std.specs.Prelude.{◌≡◌, [], ◌∷◌, Ok, Err}
 use Rattle.basin.specs.Basins.{Basin, basin, tables}
 use Rattle.basin.specs.Records.{dry}
 use Rattle.basin.specs.Refusals.{number_of}

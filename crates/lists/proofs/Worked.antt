@@ -1,7 +1,7 @@
 -- The work table at the end of a list.
-use Rattle.std.proofs.Common.{◌≡◌, ℕ, zero, suc, ◌+◌, ◌*◌, ◌^◌, ◌<◌, ◌≤◌, min, Bool, true, false, cond, not, ◌||◌, eqb, ltb, ◌⊎◌, List, [], ◌∷◌, ◌++◌, length, take, drop, replicate, Ok, Err, Result, sym, refl, ap, ◌∙◌, inl, inr, arith, length-append, length-drop, take-append-drop, drop_of_length-le, length-take, drop_at}
+use Rattle.std.proofs.Common.{◌≡◌, ℕ, ◌*◌, ◌^◌, ◌≤◌, min, Bool, true, false, cond, not, ◌||◌, eqb, ltb, List, [], ◌∷◌, ◌++◌, length, take, drop, replicate, Ok, Err, Result, sym, refl, ap, ◌∙◌, inl, inr, arith, length-append, length-drop, take-append-drop, drop_of_length-le, length-take, drop_at}
 use lib.ListN.{length-replicate}
-use Rattle.std.proofs.lemmas.Bool.{cases_Bool, cases_lt, eqb-true}
+use Rattle.std.proofs.lemmas.Bool.{cases_lt, eqb-true}
 use Rattle.basin.specs.declared.leaf.Leaf.{Leaf}
 use Rattle.basin.specs.declared.refusal.Refusal.{Refusal}
 use Rattle.basin.specs.declared.refusal.Refusal.TheVariants.{TableLength, NotABasin, OutOfRange}
@@ -18,7 +18,7 @@ use Rattle.lists.specs.declared.call.Call.TheVariants.{Pour, Draw, Settle, Step,
 use Rattle.lists.specs.declared.call.Entry.{Entry}
 use Rattle.lists.specs.declared.call.Call as list
 use Rattle.lists.specs.Lists.{call_of, calls_of, work_after_call, timed, some_timed, work_left}
-use Rattle.lists.proofs.Served.{done, worked}
+use Rattle.lists.proofs.Served.{worked}
 
 -- ---- a basin keeps its size
 keeps_levels : (c : Call) (b : Basin) → (perform c b).1.head.L ≡ b.head.L

@@ -1,7 +1,6 @@
 -- A list of calls as the definition of runs has it, and what becomes of its entries and of the work table.
-use Rattle.std.specs.Prelude.{◌≡◌, ℕ, zero, suc, ◌*◌, min, Bool, true, false, cond, ◌||◌, List, [], ◌∷◌, ◌++◌, map, length, take, drop, replicate, Ok, Err, Result, nat_lt}
+use Rattle.std.specs.Prelude.{◌≡◌, ℕ, ◌*◌, min, Bool, true, false, cond, ◌||◌, List, [], ◌∷◌, ◌++◌, map, length, take, drop, replicate, nat_lt}
 use Rattle.basin.specs.declared.leaf.Leaf.{Leaf}
-use Rattle.basin.specs.declared.refusal.Refusal.{Refusal}
 use Rattle.basin.specs.declared.refusal.Refusal.TheVariants.{OutOfRange}
 use Rattle.basin.specs.Basins.{Basin, side}
 use Rattle.basin.specs.Records.{dry}

@@ -1,5 +1,5 @@
 -- Sums of beds over rows and blocks, and the surface number.
-use Rattle.std.proofs.Common.{◌≡◌, ℕ, zero, suc, ◌+◌, ◌-◌, ◌*◌, ◌/◌, ◌%◌, ◌^◌, ◌<◌, ◌≤◌, List, get_or, sym, refl, ap, ◌∙◌, add_assoc, mul-le-mul_right, mod-lt, div-lt_iff_lt-mul, add-mul, mul-le-mul, one-mul, div-add-mod', add-one, arith}
+use Rattle.std.proofs.Common.{◌≡◌, ℕ, zero, suc, ◌+◌, ◌-◌, ◌*◌, ◌/◌, ◌^◌, ◌<◌, ◌≤◌, List, get_or, refl, ap, ◌∙◌, add_assoc, mul-le-mul_right, div-lt_iff_lt-mul, add-mul, one-mul, add-one, arith}
 use Rattle.basin.specs.Basins.{Basin, side, view}
 use Rattle.basin.specs.Records.{dry}
 use Rattle.basin.specs.Squares.{bed_sum, surface}

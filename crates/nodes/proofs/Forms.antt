@@ -1,5 +1,5 @@
 -- A tree is read where it is written, and written where it is read.
-use Rattle.std.proofs.Common.{◌≡◌, ℕ, zero, suc, pred, ◌+◌, ◌-◌, ◌*◌, ◌/◌, ◌%◌, ◌^◌, ◌<◌, ◌≤◌, Bool, true, false, cond, eqb, leb, ◌⊎◌, List, [], ◌∷◌, ◌++◌, length, get_or, drop, ℤ, pos, negsuc, nat_abs, Ok, Err, Result, sym, refl, ap, ◌∙◌, inl, inr, ⊎_elim, append_assoc, arith, lit<, length-append}
+use Rattle.std.proofs.Common.{◌≡◌, ℕ, zero, suc, ◌+◌, ◌-◌, ◌*◌, ◌≤◌, true, false, cond, eqb, List, ◌++◌, length, drop, ℤ, pos, negsuc, nat_abs, Ok, Err, Result, sym, refl, ap, ◌∙◌, ⊎_elim, append_assoc, arith, lit<, length-append}
 use Rattle.std.proofs.lemmas.Bool.{leb-true, eqb-true, cases_Bool}
 use Rattle.basin.specs.declared.leaf.Leaf.{Leaf}
 use Rattle.basin.specs.Records.{may_hold, may_run, InRange}
@@ -12,8 +12,8 @@ use Rattle.numbers.proofs.Steps.{after_ok, when, ok_parts}
 use Rattle.numbers.proofs.Forms.{written_is_read, read_was_written, signed_back, coded_back}
 use Rattle.nodes.specs.declared.fault.TreeFault.{TreeFault}
 use Rattle.nodes.specs.declared.fault.TreeFault.TheVariants.{Range}
-use Rattle.nodes.specs.Trees.{Tree, one, four, side, carried, discharge_at, leaf_at, node_at, node_by, quarters_at, quarters_by, Sound}
-use Rattle.nodes.specs.Written.{leaf_bytes, tree_bytes, TreeIsRead, TreeWasWritten}
+use Rattle.nodes.specs.Trees.{Tree, one, four, side, carried, discharge_at, leaf_at, node_at, quarters_at, Sound}
+use Rattle.nodes.specs.Written.{tree_bytes, TreeIsRead, TreeWasWritten}
 use Rattle.nodes.proofs.Ways.{node_is, node_leaf, node_fork, fork_at}
 
 -- ---- written, then read

@@ -1,12 +1,11 @@
 -- A painted table has on each square of the tree's block the entry of the leaf that the square lies in, and elsewhere what it had.
-use Rattle.std.proofs.Common.{◌≡◌, ℕ, zero, suc, pred, ◌+◌, ◌-◌, ◌*◌, ◌%◌, ◌^◌, ◌<◌, ◌≤◌, true, false, cond, ltb, ◌≢◌, ◌⊎◌, List, length, get_or, set, sym, refl, ap, ◌∙◌, inl, inr, ⊎_elim, mul-le-mul_right, add-mul, one-mul, pow-suc, arith, length-set, get_or-set_other, get_or-set_same}
-use lib.Arith.{digits_mod}
-use Rattle.std.proofs.lemmas.Bool.{lt-ltb, le-ltb, cases_lt, cases_eq}
+use Rattle.std.proofs.Common.{◌≡◌, ℕ, zero, suc, pred, ◌+◌, ◌-◌, ◌*◌, ◌^◌, ◌<◌, ◌≤◌, List, length, get_or, sym, refl, ap, ◌∙◌, ⊎_elim, mul-le-mul_right, add-mul, one-mul, pow-suc, arith}
+use Rattle.std.proofs.lemmas.Bool.{lt-ltb, le-ltb, cases_lt}
 use Rattle.basin.specs.declared.leaf.Leaf.{Leaf}
-use Rattle.basin.specs.Tables.{table, entry}
+use Rattle.basin.specs.Tables.{table}
 use Rattle.basin.proofs.Fills.{length_square, In, square_out, square_in, same_column}
 use Rattle.basin.proofs.Tabled.{tabled}
-use Rattle.nodes.specs.Trees.{Tree, one, four, side, Found, found, Sound}
+use Rattle.nodes.specs.Trees.{Tree, one, four, side, found, Sound}
 use Rattle.nodes.specs.Paint.{painted}
 
 pub length_painted : {A : Type 0} (pick : ℕ → Leaf → A) (n h : ℕ) (x : Tree) (p : ℕ) (t : List A) → length (painted pick n h x p t) ≡ length t

@@ -1,5 +1,5 @@
 -- The ways through a node, and what each leaves of the tables.
-use Rattle.std.proofs.Common.{◌≡◌, ℕ, zero, suc, pred, ◌+◌, ◌-◌, ◌*◌, ◌^◌, ◌<◌, ◌≤◌, ◌⊎◌, List, Ok, Err, Result, sym, refl, ap, ◌∙◌, inl, inr, add-one, arith}
+use Rattle.std.proofs.Common.{◌≡◌, ℕ, zero, suc, ◌+◌, ◌-◌, ◌*◌, ◌^◌, ◌<◌, ◌≤◌, ◌⊎◌, List, Ok, Err, Result, refl, ◌∙◌, inl, inr, add-one, arith}
 use Rattle.std.proofs.lemmas.Bool.{ne_eqb}
 use Rattle.numbers.specs.declared.fault.NumberFault.{NumberFault}
 use Rattle.numbers.specs.Numbers.{number_at}
@@ -8,7 +8,7 @@ use Rattle.nodes.specs.declared.fault.TreeFault.{TreeFault}
 use Rattle.nodes.specs.declared.fault.TreeFault.TheVariants.{Number, Range}
 use Rattle.basin.specs.declared.leaf.Leaf.{Leaf}
 use Rattle.numbers.specs.Steps.{after, place}
-use Rattle.nodes.specs.Trees.{Tree, one, four, side, carried, leaf_at, node_by, node_at, quarters_at, quarters_by}
+use Rattle.nodes.specs.Trees.{Tree, one, four, side, leaf_at, node_by, node_at, quarters_at, quarters_by}
 use Rattle.basin.specs.Fills.{square}
 use Rattle.nodes.specs.Paint.{painted, Drawn}
 

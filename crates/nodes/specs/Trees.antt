@@ -1,5 +1,5 @@
 -- The tree of a file: how it is read, and which leaf a square lies in.
-use Rattle.std.specs.Prelude.{◌≡◌, ℕ, zero, suc, pred, ◌+◌, ◌-◌, ◌*◌, ◌^◌, ◌<◌, Bool, true, false, cond, List, ℤ, Ok, Err, Result, ◌==◌, nat_lt}
+use Rattle.std.specs.Prelude.{ℕ, zero, suc, pred, ◌-◌, ◌*◌, ◌^◌, ◌<◌, cond, List, ℤ, Ok, Err, Result, ◌==◌, nat_lt}
 use Rattle.basin.specs.declared.leaf.Leaf.{Leaf}
 use Rattle.basin.specs.Records.{may_hold, may_run, InRange}
 use Rattle.numbers.specs.declared.fault.NumberFault.{NumberFault}

@@ -1,5 +1,4 @@
 -- How a number's fault is reported.
-use Rattle.std.specs.Prelude.{ℕ}
 use Rattle.basin.specs.declared.refusal.Refusal.TheVariants.{FileEnded, NumberForm}
 use Rattle.numbers.specs.declared.fault.NumberFault.{NumberFault}
 use Rattle.numbers.specs.declared.fault.NumberFault.TheVariants.{Ended, Malformed}

@@ -1,9 +1,8 @@
 -- Tests of all squares of a block, or of all squares that touch one, by the squares of a window.
-use Rattle.std.proofs.Common.{◌≡◌, ℕ, suc, pred, ◌+◌, ◌-◌, ◌*◌, ◌/◌, ◌%◌, ◌^◌, ◌<◌, ◌≤◌, min, Bool, true, false, not, ◌&&◌, eqb, ltb, leb, ◌⊎◌, Decides, sym, refl, ap, ◌∙◌, inl, inr, mod-lt, div-add-mod', arith}
+use Rattle.std.proofs.Common.{◌≡◌, ℕ, pred, ◌+◌, ◌-◌, ◌*◌, ◌/◌, ◌<◌, ◌≤◌, Bool, true, false, not, ◌&&◌, eqb, ltb, leb, Decides, sym, refl, ap, ◌∙◌, inl, inr, mod-lt, div-add-mod', arith}
 use lib.Arith.{digits_div}
 use Rattle.std.proofs.lemmas.Bool.{cases_Bool, and_left, and_right, or_from, leb-true, le-ltb, lt-ltb, ltb-true, ltb-false, eqb-true, eq-eqb}
 use Rattle.std.proofs.lemmas.Bool.Decides.{not_from_Decides}
-use Rattle.basin.specs.Basins.{Valid}
 use Rattle.basin.specs.Squares.{same_block, touch, edge, around, some_square, some_pair}
 use Rattle.basin.specs.Views.{View, size, side_of}
 use Rattle.basin.proofs.Found.{none, is_none, none_pair, is_none_pair}

@@ -1,11 +1,10 @@
 -- The four siblings: the squares of their block, and their records added up.
-use Rattle.std.proofs.Common.{◌≡◌, ℕ, suc, pred, ◌+◌, ◌-◌, ◌*◌, ◌/◌, ◌%◌, ◌^◌, ◌<◌, ◌≤◌, Bool, true, false, cond, not, ◌&&◌, ◌||◌, eqb, ltb, ◌⊎◌, ◌+ℤ◌, nat_abs, sym, refl, ap, ◌∙◌, inl, inr, mul-div_cancel, arith}
-use native.Mathlib.Nat.{div-div-eq-div-mul}
+use Rattle.std.proofs.Common.{◌≡◌, ℕ, suc, pred, ◌+◌, ◌-◌, ◌/◌, ◌%◌, ◌<◌, ◌≤◌, Bool, true, false, cond, not, ◌&&◌, ◌||◌, eqb, ltb, ◌⊎◌, sym, refl, ap, ◌∙◌, inl, inr, arith}
 use borrow.Author.Differences.{ints}
-use Rattle.std.proofs.lemmas.Bool.{cases_Bool, cases_eq, or_cases, or_left, or_right, or_from}
+use Rattle.std.proofs.lemmas.Bool.{cases_eq, or_cases, or_left, or_right}
 use Rattle.basin.specs.declared.leaf.Leaf.{Leaf}
-use Rattle.basin.specs.Basins.{Basin, side, view, Valid}
-use Rattle.basin.specs.Squares.{same_block, some_square}
+use Rattle.basin.specs.Basins.{Valid}
+use Rattle.basin.specs.Squares.{same_block}
 use Rattle.basin.specs.Views.{View, size, side_of}
 use Rattle.basin.proofs.Found.{is_some, found}
 use Rattle.basin.proofs.Sizes.{side_pos}
@@ -13,7 +12,6 @@ use Rattle.basin.proofs.Tests.{and_true, true_and, same_bool, differ, from_same_
 use Rattle.runs.specs.Calls.{mixed, no_siblings}
 use Rattle.runs.specs.Changes.{twin, both}
 use Rattle.runs.proofs.CallsKeep.{above, sibling, twin_x, twin_y, half_x, half_y, twin_div}
-use Rattle.runs.proofs.Sounds.{twice}
 use Rattle.refine.specs.declared.parts.Siblings.{Siblings}
 use Rattle.refine.specs.Siblings.{Slow, unlike, some_mixed}
 use Rattle.refine.proofs.Quarters.{half_div}

@@ -1,5 +1,5 @@
 -- Bed numbers, and water that stands above the ground beside it.
-use Rattle.std.proofs.Common.{◌≡◌, ℕ, suc, ◌+◌, ◌-◌, ◌*◌, ◌/◌, ◌^◌, ◌<◌, ◌≤◌, Bool, true, false, sym, refl, ap, ◌∙◌, arith}
+use Rattle.std.proofs.Common.{◌≡◌, ℕ, ◌+◌, ◌-◌, ◌*◌, ◌/◌, ◌^◌, ap, ◌∙◌}
 use Rattle.basin.specs.Basins.{Basin, side, view}
 use Rattle.basin.specs.Squares.{bed_number}
 use Rattle.basin.specs.Sums.{grid}

@@ -1,5 +1,5 @@
 -- What a merge replies and leaves, case by case.
-use Rattle.std.proofs.Common.{◌≡◌, ℕ, suc, pred, ◌+◌, ◌-◌, ◌*◌, ◌/◌, ◌^◌, ◌<◌, ◌≤◌, Bool, true, false, cond, not, ◌&&◌, ◌||◌, eqb, ltb, ◌⊎◌, List, length, get_or, nat_abs, Ok, Err, Decides, Result, sym, refl, ap, ◌∙◌, subst, inl, inr, mul-div_cancel, sub-one, arith}
+use Rattle.std.proofs.Common.{◌≡◌, ℕ, suc, pred, ◌+◌, ◌-◌, ◌*◌, ◌/◌, ◌^◌, ◌<◌, ◌≤◌, Bool, true, false, cond, not, ◌&&◌, ◌||◌, eqb, ltb, ◌⊎◌, List, length, Ok, Err, Decides, Result, sym, refl, ap, ◌∙◌, subst, inl, inr, mul-div_cancel, sub-one, arith}
 use native.Mathlib.Nat.{div-div-eq-div-mul}
 use Rattle.std.proofs.lemmas.Bool.{cases_Bool, eq-eqb, ne_eqb, or_left, or_right, or_from, ltb-false}
 use Rattle.basin.specs.declared.leaf.Leaf.{Leaf}
@@ -9,12 +9,12 @@ use Rattle.basin.specs.Basins.{Basin, basin, tables, side, view}
 use Rattle.basin.specs.Finish.{finish}
 use Rattle.basin.specs.Fills.{square}
 use Rattle.basin.specs.Records.{dry}
-use Rattle.basin.specs.Squares.{area, wet, water, bed_sum, surface}
+use Rattle.basin.specs.Squares.{area, wet, bed_sum, surface}
 use Rattle.basin.specs.Tables.{table}
 use Rattle.basin.specs.Views.{View, size, side_of}
 use Rattle.basin.proofs.Sizes.{side_pos, area_small}
 use Rattle.basin.proofs.Tests.{to_same_block}
-use Rattle.runs.specs.Calls.{merge, granted, refused, perform, pack, beside_finer, mixed, no_siblings, would_flood}
+use Rattle.runs.specs.Calls.{merge, granted, refused, perform, beside_finer, mixed, no_siblings, would_flood}
 use Rattle.runs.specs.Changes.{twin, four, merged, after_merge}
 use Rattle.runs.proofs.CallsKeep.{four_holds, sibling_holds, twin_x, twin_y, half_x, half_y}
 use Rattle.runs.proofs.Ranges.{Holds}

@@ -10,19 +10,18 @@ use Rattle.basin.specs.Blocks.{block, block_sum}
 use Rattle.basin.specs.Fills.{square}
 use Rattle.basin.specs.Finish.{finish}
 use Rattle.basin.specs.Records.{dry, may_hold}
-use Rattle.basin.specs.Squares.{area, wet, water}
+use Rattle.basin.specs.Squares.{area, wet}
 use Rattle.basin.specs.Tables.{table, entry}
-use Rattle.basin.specs.Views.{View, size, side_of}
+use Rattle.basin.specs.Views.{View, side_of}
 use Rattle.basin.proofs.Fills.{length_square, filled_entry}
 use Rattle.basin.proofs.Sizes.{side_pos, side_times}
 use Rattle.basin.proofs.Tabled.{tabled}
-use Rattle.basin.proofs.Tests.{le_leb, differ, not_true}
+use Rattle.basin.proofs.Tests.{le_leb}
 use Rattle.runs.specs.Calls.{split, granted, refused, perform, pack, beside_coarser, bare, brimming, would_flood}
 use Rattle.runs.specs.Changes.{fill, remainder, child, after_split}
-use Rattle.runs.proofs.Sounds.{twice}
 use Rattle.runs.proofs.WaterCalls.{block_in}
 use Rattle.calls.specs.declared.spot.Spot.{Spot}
-use Rattle.calls.specs.Spots.{placing, Located, ground_at}
+use Rattle.calls.specs.Spots.{placing, Located}
 use Rattle.calls.proofs.Placing.{located_covers}
 use Rattle.calls.proofs.Refilled.{beds_are, filled_table, water_is}
 use Rattle.calls.proofs.Refilled as refilled
@@ -38,7 +37,7 @@ use Rattle.refine.specs.Windows.{Between, BlockWindow, RingWindow, window_at, ri
 use Rattle.refine.proofs.Blocks.{coarser_told, flood_told}
 use Rattle.refine.proofs.Divided.{division_wet, division_dry}
 use Rattle.refine.proofs.Quarters.{quarters_some, four_quarters, half_div}
-use Rattle.refine.proofs.Spotted.{block_window_is, ring_window_is, twice_half, half_is, west_first, west_second, south_first, south_second, ground_is}
+use Rattle.refine.proofs.Spotted.{block_window_is, ring_window_is, half_is, west_first, west_second, south_first, south_second, ground_is}
 
 -- ---- the refusals that every call may meet
 pub split_refused : (b : Basin) (x y : ℕ) (e : Refusal) → placing b x y ≡ Err e → (refused e, b) ≡ perform (split x y) b

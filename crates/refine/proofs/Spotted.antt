@@ -1,10 +1,10 @@
 -- The windows and the quarters of the leaf at a spot.
-use Rattle.std.proofs.Common.{◌≡◌, ℕ, suc, ◌+◌, ◌-◌, ◌*◌, ◌/◌, ◌^◌, ◌<◌, ◌≤◌, min, List, length, sym, refl, ap, ◌∙◌, arith}
-use Rattle.basin.specs.Basins.{Basin, side, view}
+use Rattle.std.proofs.Common.{◌≡◌, ℕ, suc, ◌+◌, ◌-◌, ◌*◌, ◌/◌, ◌<◌, ◌≤◌, min, length, sym, ap, ◌∙◌, arith}
+use Rattle.basin.specs.Basins.{Basin, view}
 use Rattle.basin.specs.Blocks.{block, block_sum}
 use Rattle.basin.specs.Sums.{grid}
 use Rattle.basin.specs.Tables.{entry}
-use Rattle.basin.specs.Views.{View, size, side_of}
+use Rattle.basin.specs.Views.{side_of}
 use Rattle.basin.proofs.Sizes.{side_pos}
 use Rattle.runs.proofs.Sounds.{twice}
 use Rattle.calls.specs.declared.spot.Spot.{Spot}

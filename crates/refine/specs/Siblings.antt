@@ -1,5 +1,5 @@
 -- The four siblings that a merge joins.
-use Rattle.std.specs.Prelude.{ℕ, ◌+◌, ◌*◌, ◌≤◌, Bool, cond, not, ◌||◌, List, nat_lt, unsigned_abs}
+use Rattle.std.specs.Prelude.{ℕ, ◌*◌, ◌≤◌, Bool, cond, not, ◌||◌, List, nat_lt, unsigned_abs}
 use Rattle.basin.specs.declared.leaf.Leaf.{Leaf}
 use Rattle.basin.specs.Records.{dry}
 use Rattle.basin.specs.Tables.{entry}

@@ -1,8 +1,7 @@
 -- On a face only one side sends, so what crosses all faces is what leaves all leaves.
-use Rattle.std.proofs.Common.{◌≡◌, ℕ, ◌+◌, ◌*◌, ◌/◌, min, max, Bool, true, false, cond, leb, ◌⊎◌, ℤ, pos, negsuc, ◌-ℤ◌, neg_ℤ, nat_abs, sym, refl, ap, ◌∙◌, inl, inr, zero-mul, arith}
+use Rattle.std.proofs.Common.{◌≡◌, ℕ, ◌+◌, ◌*◌, ◌/◌, min, max, Bool, true, false, cond, leb, ◌⊎◌, ℤ, pos, negsuc, ◌-ℤ◌, neg_ℤ, nat_abs, refl, ap, ◌∙◌, inl, inr, zero-mul, arith}
 use native.Mathlib.Nat.{zero-div, min_comm, max_comm}
 use borrow.Author.Differences.{up, ints}
-use Rattle.basin.specs.declared.dir.Dir.{Dir}
 use Rattle.basin.specs.declared.dir.Dir.TheVariants.{East, North, West, South}
 use Rattle.basin.specs.Blocks.{Block}
 use Rattle.basin.specs.Views.{View, Quadtree}
@@ -10,7 +9,7 @@ use Rattle.runs.specs.Calls.{moved, crossed}
 use Rattle.runs.specs.Homes.{tree}
 use Rattle.runs.specs.Rules.{Rule}
 use Rattle.runs.specs.Step.{block_side, block_bed, state, drained, scaled, face, wish, wishes_of, leaving, crosses, across_faces, out_of}
-use Rattle.runs.specs.Trees.{Tree, Side, wall, one, two, opposite, beside, each, leaves}
+use Rattle.runs.specs.Trees.{Tree, Side, wall, one, two, beside, each, leaves}
 use Rattle.runs.proofs.Sides.{Sound}
 use Rattle.runs.proofs.Sounds.{sound}
 use Rattle.runs.proofs.Water.{leaves_add, leaves_cong, passed, round_leaves}

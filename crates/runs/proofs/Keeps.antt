@@ -6,7 +6,6 @@ use Rattle.basin.specs.Basins.{Valid}
 use Rattle.basin.specs.Squares.{same_block, water, area, touch}
 use Rattle.basin.specs.Views.{View, size, side_of}
 use Rattle.basin.proofs.Tests.{same_bool, from_same_block, to_same_block, to_touch, from_touch}
-use Rattle.runs.specs.Overs.{at}
 use Rattle.runs.proofs.Ranges.{has_room, slow_eastward, slow_northward, holds_at, Holds, to_range}
 use Rattle.runs.proofs.Sounds.{coarser}
 use Rattle.runs.proofs.Symmetry.{Symmetry}

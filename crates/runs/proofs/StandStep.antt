@@ -14,7 +14,7 @@ use Rattle.runs.specs.Homes.{tree, home, after_step}
 use Rattle.runs.specs.Rules.{Rule, Lawful}
 use Rattle.runs.specs.Runs.{Stands}
 use Rattle.runs.specs.Step.{block_surface}
-use Rattle.runs.specs.Trees.{Tree, Kind, part, whole, cut, wall, one, beside, across, at_edge, beyond, parent, first, second, opposite}
+use Rattle.runs.specs.Trees.{Tree, Kind, part, whole, cut, wall, beside, across, at_edge, beyond, parent, first, second, opposite}
 use Rattle.runs.proofs.Rest.{Every, Level, Still}
 use Rattle.runs.proofs.Sides.{side_leads, Leads, cut_above, within_beyond}
 use Rattle.runs.proofs.Sounds.{beyond_level, quarter_levels, sound, inside, twice, at_sort, agree}

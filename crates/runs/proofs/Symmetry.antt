@@ -7,12 +7,11 @@ use Rattle.std.proofs.lemmas.Bool.{cases_eq}
 use Rattle.basin.specs.declared.leaf.Leaf.{Leaf}
 use Rattle.basin.specs.Blocks.{block, block_sum}
 use Rattle.basin.specs.Records.{dry}
-use Rattle.basin.specs.Squares.{water, near, next, touch, edge, some_square}
+use Rattle.basin.specs.Squares.{near, next, touch, edge, some_square}
 use Rattle.basin.specs.Sums.{grid, only}
 use Rattle.basin.proofs.Sizes.{side_pos, side_times}
 use Rattle.runs.specs.Changes.{twin, both}
 use Rattle.basin.specs.Finish.{clipped, finish}
-use Rattle.runs.specs.Overs.{at}
 use Rattle.runs.specs.Turns.{flip_leaf, transpose_leaf}
 use Rattle.runs.proofs.Limits.{abs_negate}
 use Rattle.runs.proofs.Sounds.{inside}

@@ -8,7 +8,7 @@ use Rattle.basin.specs.Views.{View, Quadtree, size}
 use Rattle.basin.proofs.Flat.{sum_below_cong}
 use Rattle.basin.proofs.Sizes.{side_pos, side_times}
 use Rattle.runs.specs.Homes.{tree, sort, home, after_step}
-use Rattle.runs.specs.Overs.{at, over}
+use Rattle.runs.specs.Overs.{over}
 use Rattle.runs.specs.Rules.{Rule, Lawful}
 use Rattle.runs.specs.Step.{stepped, new_water}
 use Rattle.runs.specs.Trees.{whole, cut, leaves}

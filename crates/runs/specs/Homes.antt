@@ -1,5 +1,5 @@
 -- The tree that the squares of a basin make, the leaf of a square, and the squares after a step.
-use Rattle.std.specs.Prelude.{ℕ, ◌-◌, ◌*◌, ◌/◌, ◌^◌, cond, ◌==◌, nat_lt}
+use Rattle.std.specs.Prelude.{ℕ, ◌*◌, ◌/◌, cond, ◌==◌, nat_lt}
 use Rattle.basin.specs.Blocks.{Block, block, block_sum}
 use Rattle.basin.specs.Views.{View, side_of}
 use Rattle.runs.specs.Rules.{Rule}

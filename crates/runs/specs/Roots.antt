@@ -1,5 +1,5 @@
 -- Square roots of natural numbers.
-use Rattle.std.specs.Prelude.{ℕ, zero, suc, ◌+◌, ◌*◌, ◌/◌, ◌^◌, ◌<◌, ◌≤◌, Bool, true, false, cond, ◌==◌, nat_le}
+use Rattle.std.specs.Prelude.{ℕ, zero, suc, ◌+◌, ◌*◌, ◌/◌, ◌^◌, ◌<◌, ◌≤◌, true, false, cond, ◌==◌, nat_le}
 
 -- the largest number of at least r and below r + 2 ^ i whose square is at most n, where r's is
 abbrev pub root_from : ℕ → ℕ → ℕ → ℕ

@@ -1,11 +1,10 @@
 -- The lines of a block that is cut, and of one that is a leaf.
-use Rattle.std.proofs.Common.{◌≡◌, ℕ, zero, suc, ◌+◌, ◌-◌, ◌*◌, ◌^◌, ◌<◌, ◌≤◌, List, [], ◌∷◌, ◌++◌, get_or, IfOk, Result, sym, refl, ap, ◌∙◌, append_assoc, pow-suc, arith}
+use Rattle.std.proofs.Common.{◌≡◌, ℕ, zero, suc, ◌+◌, ◌-◌, ◌*◌, ◌^◌, ◌<◌, ◌≤◌, List, [], ◌∷◌, ◌++◌, get_or, IfOk, Result, refl, ap, ◌∙◌, append_assoc, pow-suc, arith}
 use Rattle.std.proofs.lemmas.Result.{IfOk-weaker}
 use Rattle.std.proofs.lemmas.Bool.{lt-ltb, le-ltb}
 use Rattle.basin.specs.Basins.{Basin, side, view, ValidBasin}
 use Rattle.basin.specs.Views.{View}
 use Rattle.basin.proofs.Sizes.{side_pos}
-use Rattle.sheet.specs.declared.line.Line.{Line}
 use Rattle.sheet.specs.Lines.{line, lines_at}
 
 halves : (h : ℕ) → 0 < h → 2 ^ h ≡ 2 ^ (h - 1) + 2 ^ (h - 1)

@@ -10,7 +10,7 @@ use Rattle.basin.specs.Finish.{finish}
 use Rattle.basin.specs.Records.{dry, may_hold, InRange}
 use Rattle.basin.specs.Squares.{some_square}
 use Rattle.basin.specs.Sums.{only}
-use Rattle.basin.specs.Tables.{table, entry}
+use Rattle.basin.specs.Tables.{table}
 use Rattle.basin.specs.Views.{View}
 use Rattle.basin.proofs.Sizes.{side_pos, side_times}
 use Rattle.basin.proofs.Tabled.{tabled}

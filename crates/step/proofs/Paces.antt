@@ -8,7 +8,6 @@ use Rattle.basin.specs.Basins.{Basin, view, ValidBasin}
 use Rattle.basin.specs.Squares.{area, wet, water, some_square}
 use Rattle.basin.specs.Views.{size, side_of}
 use Rattle.runs.specs.Calls.{too_fast}
-use Rattle.runs.specs.Roots.{root, square_root}
 use Rattle.runs.proofs.Rooted.{root_agrees}
 use Rattle.runs.proofs.Symmetry.{some_square_cong}
 use Rattle.step.specs.Speeds.{fast, fast_in}
@@ -41,7 +40,7 @@ fast_is b ok T =
     let v = view b in
     some_square_cong (size v) _ _
     (λ x y i j. ap
-      (λ r. wet v x y && nat_lt (1000000 * v.d * side_of v (v.level x y))
-          (4 * (max (nat_abs (v.leaf x y).east / water v x y) (nat_abs (v.leaf x y).north / water v x y) + r) * T))
-      (sym (root_agrees (9810 * (water v x y / area v (v.level x y)))
-      (small_depth (water v x y / area v (v.level x y)) (depth_most (area v (v.level x y)) (v.leaf x y) (ok.squares.in_range x y i j))))))
+    (λ r. wet v x y && nat_lt (1000000 * v.d * side_of v (v.level x y))
+    (4 * (max (nat_abs (v.leaf x y).east / water v x y) (nat_abs (v.leaf x y).north / water v x y) + r) * T))
+    (sym (root_agrees (9810 * (water v x y / area v (v.level x y)))
+    (small_depth (water v x y / area v (v.level x y)) (depth_most (area v (v.level x y)) (v.leaf x y) (ok.squares.in_range x y i j))))))

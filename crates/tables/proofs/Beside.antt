@@ -4,7 +4,7 @@ use Rattle.std.proofs.lemmas.Bool.{cases_Bool, cases_order, and_left, and_right,
 use Rattle.basin.specs.Squares.{touch, unbalanced}
 use Rattle.basin.proofs.Found.{none_pair, is_none_pair}
 use Rattle.basin.proofs.Tests.{to_touch, from_touch, not_and}
-use Rattle.tables.specs.Beside.{Close, FitsBeside, RowsFit}
+use Rattle.tables.specs.Beside.{Close, RowsFit}
 
 flip : (a b : ℕ) → Close a b → Close b a
 flip a b h = (h.1, h.0)

@@ -1,5 +1,5 @@
 -- Head and tables are a valid basin where each square is valid and the levels are balanced.
-use Rattle.std.proofs.Common.{◌≡◌, ℕ, ◌+◌, ◌-◌, ◌*◌, ◌/◌, ◌<◌, Bool, true, false, cond, not, ◌||◌, Ok, Err, sym, refl, ap, ◌∙◌, inl, inr, arith}
+use Rattle.std.proofs.Common.{◌≡◌, ℕ, ◌+◌, ◌-◌, ◌*◌, ◌/◌, ◌<◌, Bool, true, false, not, ◌||◌, Ok, Err, sym, refl, ap, ◌∙◌, inl, inr, arith}
 use Rattle.std.proofs.lemmas.Bool.{cases_Bool}
 use Rattle.basin.specs.declared.refusal.Refusal.TheVariants.{TableLength, NotABasin}
 use Rattle.basin.specs.Basins.{Basin, side, view, Heads, Full, ValidBasin}

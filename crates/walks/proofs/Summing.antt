@@ -2,7 +2,7 @@
 use Rattle.std.proofs.Common.{◌≡◌, ℕ, ◌+◌, ◌-◌, ◌*◌, ◌/◌, ◌%◌, ◌^◌, ◌<◌, ◌≤◌, true, eqb, sym, ap, ◌∙◌, mod-lt, add-mul, mul-le-mul, div-add-mod', arith}
 use Rattle.std.proofs.lemmas.Bool.{eq-eqb, eqb-true}
 use Rattle.basin.specs.Basins.{Basin, view, ValidBasin}
-use Rattle.basin.specs.Blocks.{Block, block}
+use Rattle.basin.specs.Blocks.{Block}
 use Rattle.basin.specs.Sums.{only}
 use Rattle.basin.specs.Totals.{corner_of, is_corner}
 use Rattle.basin.specs.Views.{View, side_of}

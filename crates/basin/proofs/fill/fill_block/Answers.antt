@@ -1,5 +1,4 @@
-use Rattle.std.proofs.Common.{◌≡◌, ℕ, suc, ◌+◌, ◌-◌, ◌*◌, ◌^◌, ◌<◌, ◌≤◌, length, get_or, set, sym, refl, ap, ◌∙◌, arith, rules}
-use Rattle.basin.specs.Fills.{row, square}
+use Rattle.std.proofs.Common.{◌≡◌, length, ◌∙◌, arith}
 use Rattle.basin.proofs.Fills.{inside, row_none, row_more, square_none, square_more}
 use Rattle.basin.proofs.fill.fill_block.Goals as goal
 

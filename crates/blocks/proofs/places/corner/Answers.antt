@@ -1,5 +1,5 @@
 -- The corner lies in the table, since the block lies in the basin.
-use Prim.Native.Nat.{◌*◌, ◌-◌}
+use Prim.Native.Nat.{◌*◌}
 use mathlib.Core.Path.{ap, ◌∙◌}
 use native.Mathlib.Omega.{arith}
 use Rattle.blocks.proofs.Lying.{corner_east, corner_north}

@@ -1,5 +1,5 @@
 -- No sum on the way leaves the range of the type.
-use Rattle.std.proofs.Common.{ℤ, ◌+ℤ◌, arith, w64, SFits}
+use Rattle.std.proofs.Common.{◌+ℤ◌, arith, w64, SFits}
 use Rattle.std.proofs.lemmas.Int.{ints, to_z-of_z}
 use Rattle.borders.proofs.Adding.{sum_fits}
 use Rattle.borders.proofs.drain.gathered.Goals as goal

@@ -1,4 +1,4 @@
-use Rattle.std.proofs.Common.{◌+◌, ◌*◌, ◌≤◌, mul-le-mul_right, add-mul, mul-pos, arith}
+use Rattle.std.proofs.Common.{mul-le-mul_right, add-mul, mul-pos, arith}
 use Rattle.calls.proofs.spot.refill.Goals as goal
 
 pub fill_block-requires : goal.fill_block-requires

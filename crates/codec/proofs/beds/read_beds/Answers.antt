@@ -1,4 +1,4 @@
-use Rattle.std.proofs.Common.{◌≡◌, ℕ, suc, ◌+◌, ◌-◌, ◌*◌, ◌^◌, ◌<◌, ◌≤◌, length, get_or, take, set, sym, refl, ap, ◌∙◌, add-one, arith, take-suc-set, rules}
+use Rattle.std.proofs.Common.{◌≡◌, ◌+◌, ◌-◌, ◌<◌, length, sym, refl, ◌∙◌, add-one, arith, take-suc-set, rules}
 use Rattle.std.proofs.lemmas.List.{take_all}
 use Rattle.codec.proofs.Bedding.{beds_step, beds_stop, beds_end}
 use Rattle.codec.proofs.beds.read_beds.Goals as goal

@@ -1,4 +1,4 @@
-use Rattle.std.proofs.Common.{◌≡◌, ◌-◌, ◌≤◌, length, take}
+use Rattle.std.proofs.Common.{◌≡◌, ◌-◌, length, take}
 use Rattle.codec.specs.Files.{beds_at, beds_from}
 use Rattle.codec.proofs.beds.read_beds.Given as goal
 

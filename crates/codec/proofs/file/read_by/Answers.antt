@@ -1,10 +1,10 @@
-use Rattle.std.proofs.Common.{◌≡◌, true, false, cond, ◌⊎◌, length, Ok, Err, sym, refl, ap, ◌∙◌, inl, inr, rules}
+use Rattle.std.proofs.Common.{◌≡◌, true, cond, length, Ok, Err, sym, refl, ◌∙◌}
 use Rattle.std.proofs.lemmas.Result.{err_from_is_err_and}
 use Rattle.basin.specs.Basins.{heading, tables, basin}
 use Rattle.basin.proofs.Telling.{are_full, not_full, is_misfit, no_misfit}
 use Rattle.nodes.specs.declared.fault.TreeFault.TheVariants.{Unbalanced}
 use Rattle.codec.specs.declared.fault.FileFault.TheVariants.{Tree}
-use Rattle.codec.specs.Files.{body_at, file_at}
+use Rattle.codec.specs.Files.{file_at}
 use Rattle.codec.proofs.Whole.{file_no_head, file_no_body, no_body, file_told, read_refused, read_misfit, read_granted}
 use Rattle.codec.proofs.file.read_by.Goals as goal
 use Rattle.codec.proofs.file.read_by.Goals.{After-is_balanced, at-returns, at-returns-then-not-is_balanced, at-returns-then-levels-squares}

@@ -1,4 +1,4 @@
-use Rattle.std.proofs.Common.{◌≡◌, ◌+◌, ◌-◌, ◌*◌, ◌^◌, ◌<◌, ◌≤◌, get_or, sym, ap, ◌∙◌, mul-pos, arith}
+use Rattle.std.proofs.Common.{◌+◌, ◌*◌, ◌≤◌, get_or, sym, ap, ◌∙◌, mul-pos, arith}
 use Rattle.basin.specs.Basins.{basin_of}
 use Rattle.looks.proofs.Beds.{block_in, surface_is}
 use Rattle.looks.proofs.surface.surface_at.Goals as goal

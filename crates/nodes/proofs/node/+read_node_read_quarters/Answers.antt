@@ -1,4 +1,4 @@
-use Rattle.std.proofs.Common.{◌≡◌, ℕ, suc, ◌+◌, ◌-◌, ◌*◌, ◌/◌, ◌^◌, ◌<◌, ◌≤◌, length, get_or, set, Result, sym, refl, ap, ◌∙◌, mul-le-mul_right, one-mul, arith, pow_pos, rules}
+use Rattle.std.proofs.Common.{◌≡◌, ℕ, ◌+◌, ◌-◌, ◌≤◌, Result, refl, ◌∙◌, mul-le-mul_right, one-mul, arith, pow_pos, rules}
 use Rattle.nodes.specs.declared.fault.TreeFault.{TreeFault}
 use Rattle.nodes.specs.Trees.{Tree, node_at}
 use Rattle.nodes.specs.Paint.{level_of, record_of}

@@ -1,4 +1,4 @@
-use Rattle.std.proofs.Common.{◌≡◌, ℕ, suc, ◌+◌, ◌-◌, ◌*◌, ◌^◌, ◌<◌, ◌≤◌, length, get_or, sym, refl, ap, ◌∙◌, inl, inr, pow-suc, add-one, arith, rules}
+use Rattle.std.proofs.Common.{◌≡◌, ◌+◌, ◌-◌, ◌*◌, get_or, sym, ap, ◌∙◌, inl, inr, pow-suc, add-one, arith}
 use Rattle.numbers.specs.Numbers.{groups_at}
 use Rattle.numbers.proofs.Groups.{ended, padded, done, more, share, light, kept_below}
 use Rattle.numbers.proofs.number.read_number.Goals as goal

@@ -1,4 +1,4 @@
-use Rattle.std.proofs.Common.{◌≡◌, ◌*◌, ◌/◌, ◌≤◌, sym, mul-le-mul_right, one-mul, div-add-mod', arith}
+use Rattle.std.proofs.Common.{◌/◌, ◌≤◌, mul-le-mul_right, one-mul, div-add-mod', arith}
 use Rattle.refine.proofs.siblings.twin.Goals as goal
 
 -- an odd block is not the first

@@ -1,6 +1,6 @@
 -- First the flip, then the quarter turns.
-use Rattle.std.proofs.Common.{◌≡◌, ◌/◌, ◌%◌, ◌<◌, sym, refl, ap, ◌∙◌, arith}
-use Rattle.runs.specs.Turns.{Place, place, flip_place, times}
+use Rattle.std.proofs.Common.{◌≡◌, ◌/◌, ◌%◌, refl, ap, arith}
+use Rattle.runs.specs.Turns.{place, flip_place, times}
 use Rattle.turns.proofs.Places.{Inside, once, half, thrice, not_flipped, flipped_first, then_quarters}
 use Rattle.turns.proofs.place.moved.Goals as goal
 use Rattle.turns.proofs.place.moved.Goals.{Joined-turn-lt4, then-turn-lt4, else-turn-lt4, at-returns-in-0, at-returns-in-1, at-returns-in-2, at-returns-in_default}

@@ -1,5 +1,5 @@
 -- The flow is what falls, and the push is the mean of both pressures.
-use Rattle.std.proofs.Common.{◌+◌, ◌/◌, ◌≤◌, pos, refl, ◌∙◌, arith, w64}
+use Rattle.std.proofs.Common.{◌+◌, ◌/◌, pos, refl, ◌∙◌, arith, w64}
 use Rattle.std.proofs.lemmas.Int.{to_z_pos}
 use Rattle.flow.specs.Whole.{back}
 use Rattle.flow.proofs.pond.PondFlowRule.between.Goals as goal
