@@ -9,11 +9,11 @@ use Rattle.borders.specs.declared.pool.Pool.{Pool}
 
 -- a record with water on beds of this sum, on a block of side s
 abbrev pub pool_by : ℕ → ℕ → Leaf → Pool
-pool_by s ground l =
+pool_by s beds l =
     record {
       leaf = l;
-      surface = (l.water + ground) / (s * s);
-      bed = ground / (s * s);
+      surface = (l.water + beds) / (s * s);
+      bed = beds / (s * s);
       side = s;
       eastward = int_div l.east (pos l.water);
       northward = int_div l.north (pos l.water);
