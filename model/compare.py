@@ -124,11 +124,11 @@ def compare_files(program: Path, seed: int, count: int) -> bool:
 # replay
 
 
-def message_fits(err: bytes, stopped: int | None, is_empty: bool) -> bool:
-    """Of a message only the line's number is compared."""
+def message_fits(program: str, err: bytes, stopped: int | None, is_empty: bool) -> bool:
+    """Of a message only its beginning is compared."""
     if stopped is not None:
-        return f"line {stopped}:".encode() in err
-    return (err != b"") == is_empty
+        return err.startswith(f"{program}: line {stopped}: ".encode())
+    return err.startswith(f"{program}: the log is empty".encode()) if is_empty else err == b""
 
 
 def encoded(log: str) -> bytes:
@@ -149,7 +149,7 @@ def agrees(program: Path, case: Case, wanted: Run, seed: int) -> bool:
     given, left = run_log(program, case)
     status = 0 if wanted.stopped is None else 1
     is_same = given.out == wanted.printed.encode() and given.status == status
-    if is_same and message_fits(given.err, wanted.stopped, case.log == "") and left == wanted.files:
+    if is_same and message_fits("replay", given.err, wanted.stopped, case.log == "") and left == wanted.files:
         return True
     stopped = b"" if wanted.stopped is None else f"(line {wanted.stopped}: {wanted.why})".encode()
     report(f"a log, {case.kind}", encoded(case.log), seed, Answer(wanted.printed.encode(), stopped, status), given)
@@ -219,7 +219,7 @@ def compare_fluxes(program: Path, seed: int, count: int) -> bool:
         text = f"# one\npond 1 0 0 1 0 0\n{bad}\npond 2 0 0 1 0 0\n"
         printed, stopped = fluxes.fluxes(text)
         given = run(program, text.encode())
-        if (given.out, given.status) != (printed.encode(), 1) or not message_fits(given.err, stopped, False):
+        if (given.out, given.status) != (printed.encode(), 1) or not message_fits("fluxes", given.err, stopped, False):
             report("a bad line", text.encode(), seed, Answer(printed.encode(), f"(line {stopped})".encode(), 1), given)
             return False
     none = wanted.out.split(b"\n").count(b"no side")

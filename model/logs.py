@@ -23,6 +23,11 @@ from leaves import all_leaves, leaf_at, most_water, quotient, record
 from replay import FOLDER, Replay, Reply, Stop
 from step import MOST_TIME
 
+BAD_LINES = (
+    "pour", "open", "open 1", "open 1 2 3", "open  1 2", "open 1 2 ", " total", "close now", "total 1", "look 1", "look 1 x",
+    "look -1 0", "look +1 0", "look 1.0 0", "look 18446744073709551616 0", "lay 0 0", "read 0", "read zz", "read 00 00",
+    "load", f"load {FOLDER}nothing-here", "save", f"save {FOLDER}no/such/folder", "OPEN 1 1", "open one 1", "look 0 \u0661",
+)  # fmt: skip
 HUGE = 1 << 64  # the least number that is none
 BAD_NUMBERS = ("", "-1", "+1", "1.0", "0x1", "a", "1a", "１", str(HUGE), str(HUGE * 10), "1,000")
 RAW_BYTES = False  # whether lines may have bytes that are no UTF-8, which the program does not yet pass over or name
@@ -261,6 +266,9 @@ def logs(seed: int) -> Iterator[Case]:
     rng, met = Random(seed), Counter[str]()
     yield Case("empty", "", {})
     yield Case("nothing to do", "# nothing\n\n#", {})
+    yield Case("largest", "\n".join(f"read {write(basin).hex()}\nwrite\ntotal\nlook 63 63" for basin in (files.fullest(6), files.fullest(0, -1))), {})
+    for bad in BAD_LINES:
+        yield Case("bad", "\n".join(("open 1 25", "lay 0 0 7", "close", "look 0 0", bad, "total")) + "\n", {})
     while True:
         shelf = list(files_to_read(rng))
         for _ in range(LOGS_TO_A_SHELF):

@@ -3,4 +3,5 @@
 
 pub mod fault;
 pub mod node;
+pub mod paint;
 pub mod record;

@@ -5,8 +5,8 @@ ghost use Rattle.nodes.specs.Trees.{node_at, quarters_at};
 ghost use Rattle.nodes.specs.Paint.{Drawn, level_of, record_of, Placed, PlacedFour};
 
 use crate::fault::TreeFault;
+use crate::paint::fill_block;
 use crate::record::read_leaf;
-use basin::fill::fill_block;
 use basin::leaf::Leaf;
 use numbers::number::read_number;
 

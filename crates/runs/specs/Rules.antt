@@ -52,14 +52,14 @@ pub record MirrorsAlong (R : Rule) : Type 0 where
   pub drift : (a b : State) → Fine a → Fine b → R.drift (turned_along a) (turned_along b) ≡ neg_ℤ (R.drift a b)
 
 -- caps: nothing that passes is larger than the rule's caps, one for the flow and one for push and drift
-pub record Capped (flow-cap push-cap : ℕ) (R : Rule) : Type 0 where
-  pub flow : (a b : State) → Fine a → Fine b → unsigned_abs (R.flow a b) ≤ flow-cap
-  pub push : (a b : State) → Fine a → Fine b → unsigned_abs (R.push a b) ≤ push-cap
-  pub drift : (a b : State) → Fine a → Fine b → unsigned_abs (R.drift a b) ≤ push-cap
+pub record Capped (flow_cap push_cap : ℕ) (R : Rule) : Type 0 where
+  pub flow : (a b : State) → Fine a → Fine b → unsigned_abs (R.flow a b) ≤ flow_cap
+  pub push : (a b : State) → Fine a → Fine b → unsigned_abs (R.push a b) ≤ push_cap
+  pub drift : (a b : State) → Fine a → Fine b → unsigned_abs (R.drift a b) ≤ push_cap
 
 -- no rule has larger caps
 abbrev pub LowCaps : ℕ → ℕ → Type 0
-LowCaps flow-cap push-cap = (flow-cap ≤ 1200000000) × (push-cap ≤ 25000000000000)
+LowCaps flow_cap push_cap = (flow_cap ≤ 1200000000) × (push_cap ≤ 25000000000000)
 
 -- the laws of a rule: between equal depths at rest only the pressure acts, a mirror at the face turns what passes, and a mirror along the
 -- face turns only the momentum along it

@@ -1,0 +1,2 @@
+// A leaf's entry on the squares of its block.
+pub use basin::fill::fill_block;
