@@ -81,6 +81,7 @@ pub fn between<R: FlowRule>(rule: &R, near: Pool, far: Pool, dir: Dir, pace: Pac
 /// What the basin's wall does to a leaf: behind it stands the leaf's own side, mirrored.
 pub fn at_wall<R: FlowRule>(rule: &R, near: Pool, dir: Dir, pace: Pace) -> Share
     requires { Kept near }
+    ensures wish { result.wish ≡ wish_by (R.meaning rule.now) pace.time pace.width dir (face_at_wall dir near) }
     ensures across { result.across ≡ across_by (R.meaning rule.now) pace.time pace.width dir (face_at_wall dir near) }
     ensures along { result.along ≡ along_by (R.meaning rule.now) pace.time pace.width dir (face_at_wall dir near) }
     ensures small { SmallShare result }
