@@ -1,3 +1,4 @@
 -- The definitions that the contracts cite.
 pub mod Beside
 pub mod Alike
+pub mod Surveys

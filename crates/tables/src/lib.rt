@@ -2,4 +2,6 @@
 #![tactic(auto)]
 
 pub mod balance;
+pub mod survey;
+pub mod surveys;
 pub mod validity;
