@@ -2,6 +2,9 @@
 use Rattle.std.proofs.Common.{◌≡◌, ℕ, zero, suc, ◌+◌, ◌*◌, ◌/◌, ◌%◌, ◌<◌, ◌≤◌, Bool, true, false, cond, ◌&&◌, eqb, ◌≢◌, List, length, get_or, set, sym, refl, ap, ◌∙◌, ⊎_elim, mul-le-mul_right, mod-lt, add-mul, one-mul, div-add-mod', add-one, arith, length-set, get_or-set_other, get_or-set_same}
 use lib.Arith.{digits_mod, digits_div}
 use Rattle.std.proofs.lemmas.Bool.{cases_eq, eqb-true, eq-eqb}
+use borrow.Rule.Slice.PartMut.{put_mid, post_of}
+use Rattle.std.proofs.lemmas.List.{set-append_left, set-append_right, take-append-drop, length-take, length-take-le, length-drop}
+use Rattle.std.proofs.Common.{take, drop, ◌-◌, ◌++◌}
 use Rattle.basin.specs.Fills.{row, square}
 use Rattle.basin.specs.Tables.{entry}
 use Rattle.basin.proofs.Tests.{and_true, true_and, differ}
@@ -21,6 +24,12 @@ pub row_more : {A : Type 0} (i p : ℕ) (v : A) (t : List A) → set (row i p v 
 unfolding row
 row_more i p v t = rw add-one refl
 
+pub row_first_more : {A : Type 0} (i : ℕ) (v : A) (t : List A) → set (row i 0 v t) i v ≡ row (i + 1) 0 v t
+unfolding row
+row_first_more i v t =
+    let e : i ≡ 0 + i = omega arith in
+    rw add-one (ap (λ k. set (row i 0 v t) k v) e)
+
 pub square_none : {A : Type 0} (n wide p : ℕ) (v : A) (t : List A) → t ≡ square 0 n wide p v t
 unfolding square
 square_none n wide p v t = refl
@@ -39,6 +48,25 @@ pub length_square : {A : Type 0} (j n w p : ℕ) (v : A) (t : List A) → length
 unfolding square
 length_square zero n w p v t = refl
 length_square (suc j) n w p v t = length_row w (p + j * n) v (square j n w p v t) ∙ length_square j n w p v t
+
+-- ---- a row as a part of the table
+set_put_back : {A : Type 0} (k a n : ℕ) (v : A) (t b : List A) → a ≤ length t → k < length b → put_mid a n t (set b k v) ≡ set (put_mid a n t b) (a + k) v
+set_put_back k a n v t b h m =
+    let e : a + k - a ≡ k = omega arith in
+    sym (set-append_right (take a t) (b ++ post_of a n t) a (a + k) v (length-take-le a t h) (omega arith) ∙ ap (λ z. take a t ++ z) (rw e (set-append_left b (post_of a n t) k v m)))
+
+-- the entries of a part
+pub length_part : {A : Type 0} (a n : ℕ) (t : List A) → a + n ≤ length t → length (take (a + n - a) (drop a t)) ≡ n
+length_part a n t h = rw (length-take (a + n - a) (drop a t), length-drop a t) (omega arith)
+
+-- the part's first entries filled, and the part put back
+pub row_put_back : {A : Type 0} (k a n : ℕ) (v : A) (t : List A) → k ≤ n → a + n ≤ length t → put_mid a n t (row k 0 v (take n (drop a t))) ≡ row k a v t
+unfolding row
+row_put_back zero a n v t h m = ap (λ z. take a t ++ z) (take-append-drop n (drop a t)) ∙ take-append-drop a t
+row_put_back (suc k) a n v t h m =
+    let z : 0 + k ≡ k = omega arith in
+    let long : k < length (row k 0 v (take n (drop a t))) = rw (length_row k 0 v (take n (drop a t)), length-take n (drop a t), length-drop a t) (omega arith) in
+    rw z (set_put_back k a n v t _ (omega arith) long ∙ ap (λ u. set u (a + k) v) (row_put_back k a n v t (omega arith) m))
 
 -- ---- outside a block
 -- place k lies in a block of rows by wide entries at p

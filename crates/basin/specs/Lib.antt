@@ -10,3 +10,5 @@ pub mod Flaws
 pub mod Totals
 pub mod Fills
 pub mod Finish
+pub mod Places
+pub mod Windows

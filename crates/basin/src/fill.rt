@@ -9,8 +9,8 @@ pub fn fill_block<T: Copy>(table: &mut [T], corner: usize, side: usize, stride: 
 {
     for j in 0..side {
         let start = corner + j * stride;
-        for i in 0..side {
-            table[start + i] = value;
+        for entry in &mut table[start..start + side] {
+            *entry = value;
         }
     }
 }

@@ -1,7 +1,9 @@
 // A basin's head.
-ghost use Rattle.std.specs.Prelude.{◌≡◌, ◌*◌, ◌^◌, ◌≤◌};
+ghost use Rattle.std.specs.Prelude.{◌≡◌, ◌*◌, ◌^◌, ◌<◌, ◌≤◌, MatchOption};
+ghost use Rattle.basin.specs.Places.{IsAt};
 
 use crate::size::side;
+use crate::square::Square;
 
 /// The head of a basin: the levels L of its tree, the width d of a square in metres, and the loose account, which holds water that lies in
 /// no leaf. No other head exists: the ranges are part of the type.
@@ -30,5 +32,17 @@ impl Head {
     {
         let n = self.side();
         n * n
+    }
+
+    /// The square (x, y), if the basin has it.
+    pub fn square(&self, x: usize, y: usize) -> Option<Square>
+        ensures { MatchOption result (x < 2 ^ self.now.levels → y < 2 ^ self.now.levels → ⊥) (IsAt x y (2 ^ self.now.levels)) }
+    {
+        let n = self.side();
+        if x < n && y < n {
+            Some(Square { x, y, n })
+        } else {
+            None
+        }
     }
 }

@@ -4,7 +4,11 @@
 pub mod dir;
 pub mod fill;
 pub mod finish;
+pub mod fits;
 pub mod head;
 pub mod leaf;
 pub mod refusal;
 pub mod size;
+pub mod square;
+pub mod squares;
+pub mod window;

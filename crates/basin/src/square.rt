@@ -1,0 +1,12 @@
+// A square of a basin.
+ghost use Rattle.std.specs.Prelude.{◌<◌, ◌≤◌};
+
+/// A square of a basin of `n` by `n` squares: the `x`-th eastward and the `y`-th northward, counted from 0. No other square exists: that it lies
+/// in the basin is part of the type.
+#[derive(Clone, Copy)]
+pub struct Square {
+    pub x: usize,
+    pub y: usize,
+    pub n: usize,
+    ghost inside: { (n ≤ 64) × (x < n) × (y < n) },
+}

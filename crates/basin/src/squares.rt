@@ -1,0 +1,77 @@
+// Places and neighbours of squares.
+ghost use Rattle.std.specs.Prelude.{◌≡◌, ◌+◌, ◌-◌, ◌*◌, ◌/◌, ◌<◌, ◌≤◌, MatchOption};
+ghost use Rattle.basin.specs.Places.{IsAt};
+
+use crate::size::place;
+use crate::square::Square;
+
+impl Square {
+    /// The square's entry in a table.
+    pub fn entry(self) -> usize
+        ensures value { result ≡ self.y * self.n + self.x }
+        ensures within { result < self.n * self.n }
+    {
+        place(self.n, self.x, self.y)
+    }
+
+    /// The south-west square of the block of side `s` that the square lies in.
+    pub fn corner(self, s: usize) -> Square
+        requires { 0 < s }
+        ensures { IsAt (self.x / s * s) (self.y / s * s) self.n result }
+    {
+        let Square { x, y, n } = self;
+        Square {
+            x: x / s * s,
+            y: y / s * s,
+            n,
+        }
+    }
+
+    /// The next square eastward, if there is one.
+    pub fn east(self) -> Option<Square>
+        ensures { MatchOption result (self.n ≤ self.x + 1) (IsAt (self.x + 1) self.y self.n) }
+    {
+        let Square { x, y, n } = self;
+        if x + 1 < n {
+            Some(Square { x: x + 1, y, n })
+        } else {
+            None
+        }
+    }
+
+    /// The next square northward, if there is one.
+    pub fn north(self) -> Option<Square>
+        ensures { MatchOption result (self.n ≤ self.y + 1) (IsAt self.x (self.y + 1) self.n) }
+    {
+        let Square { x, y, n } = self;
+        if y + 1 < n {
+            Some(Square { x, y: y + 1, n })
+        } else {
+            None
+        }
+    }
+
+    /// The next square westward, if there is one.
+    pub fn west(self) -> Option<Square>
+        ensures { MatchOption result (self.x ≡ 0) (IsAt (self.x - 1) self.y self.n) }
+    {
+        let Square { x, y, n } = self;
+        if x > 0 {
+            Some(Square { x: x - 1, y, n })
+        } else {
+            None
+        }
+    }
+
+    /// The next square southward, if there is one.
+    pub fn south(self) -> Option<Square>
+        ensures { MatchOption result (self.y ≡ 0) (IsAt self.x (self.y - 1) self.n) }
+    {
+        let Square { x, y, n } = self;
+        if y > 0 {
+            Some(Square { x, y: y - 1, n })
+        } else {
+            None
+        }
+    }
+}

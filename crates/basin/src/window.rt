@@ -1,0 +1,52 @@
+// Windows of squares.
+ghost use Rattle.std.specs.Prelude.{◌≡◌, ℕ, true, false, ◌<◌, ◌≤◌, MatchBool};
+ghost use Rattle.basin.specs.Windows.{Seen, whole_of};
+
+/// The squares from `west` to before `east` of the rows from `south` to before `north`.
+#[derive(Clone, Copy)]
+pub struct Window {
+    pub west: usize,
+    pub east: usize,
+    pub south: usize,
+    pub north: usize,
+}
+
+impl Window {
+    /// All squares of a basin of `n` by `n`.
+    pub fn whole(n: usize) -> Window
+        ensures { result ≡ whole_of n }
+    {
+        Window {
+            west: 0,
+            east: n,
+            south: 0,
+            north: n,
+        }
+    }
+
+    /// Whether the squares of row `y` pass a test.
+    fn row_passes<F: Fn(usize, usize) -> bool>(self, y: usize, test: &F) -> bool
+        requires { (x : ℕ) → self.west ≤ x → x < self.east → F.pre test.now x y }
+        ensures { MatchBool result ((x : ℕ) → self.west ≤ x → x < self.east → F.post test.now x y true) ((x : ℕ) × ((self.west ≤ x) × ((x < self.east) × F.post test.now x y false))) }
+    {
+        for x in self.west..self.east {
+            if !test(x, y) {
+                return false;
+            }
+        }
+        true
+    }
+
+    /// Whether all squares pass a test, which is asked of no other square.
+    pub fn passes<F: Fn(usize, usize) -> bool>(self, test: F) -> bool
+        requires { (x y : ℕ) → Seen self x y → F.pre test x y }
+        ensures { MatchBool result ((x y : ℕ) → Seen self x y → F.post test x y true) ((x : ℕ) × ((y : ℕ) × (Seen self x y × F.post test x y false))) }
+    {
+        for y in self.south..self.north {
+            if !self.row_passes(y, &test) {
+                return false;
+            }
+        }
+        true
+    }
+}
