@@ -6,3 +6,4 @@ pub mod Found
 pub mod Telling
 pub mod Flat
 pub mod Fills
+pub mod Windows

@@ -1,9 +1,9 @@
 -- A table is balanced where each square fits beside its neighbours to the east and the north.
-use Rattle.std.proofs.Common.{◌≡◌, ℕ, ◌+◌, ◌-◌, ◌<◌, ◌≤◌, true, false, not, sym, ap, inl, inr, arith}
+use Rattle.std.proofs.Common.{◌≡◌, ℕ, ◌+◌, ◌-◌, ◌<◌, ◌≤◌, Bool, true, false, not, Decides, sym, refl, ap, inl, inr, arith}
 use Rattle.std.proofs.lemmas.Bool.{cases_Bool, cases_order, and_left, and_right, le-ltb, ltb-false}
 use Rattle.basin.specs.Squares.{touch, unbalanced}
 use Rattle.basin.proofs.Found.{none_pair, is_none_pair}
-use Rattle.basin.proofs.Tests.{to_touch, from_touch, not_and}
+use Rattle.basin.proofs.Tests.{differ, to_touch, from_touch, not_and}
 use Rattle.tables.specs.Beside.{Close, RowsFit}
 
 flip : (a b : ℕ) → Close a b → Close b a
@@ -66,9 +66,8 @@ module _ (n : ℕ) (level : ℕ → ℕ → ℕ) (h : unbalanced n level ≡ fal
         north_west = λ c d. close x y (x - 1) (y + 1) a b (omega arith) d (omega arith) (omega arith) (omega arith) (omega arith);
       }
 
-pub balanced_where_rows_fit : (n : ℕ) (level : ℕ → ℕ → ℕ) → RowsFit n level n → true ≡ not (unbalanced n level)
-balanced_where_rows_fit n level h = sym (ap not (balanced n level h))
-
-pub unbalanced_where_not : (n : ℕ) (level : ℕ → ℕ → ℕ) → (RowsFit n level n → ⊥) → false ≡ not (unbalanced n level)
-unbalanced_where_not n level h =
-    elim (cases_Bool (unbalanced n level)) [ inl e ↦ sym (ap not e) | inr e ↦ absurd (h (fit n level e)) ]
+-- what decides whether all squares fit decides whether the table is balanced
+pub balance_decided : (n : ℕ) (level : ℕ → ℕ → ℕ) (r : Bool) → Decides r (RowsFit n level n) → r ≡ not (unbalanced n level)
+balance_decided n level true d = sym (ap not (balanced n level (d.0 refl)))
+balance_decided n level false d =
+    elim (cases_Bool (unbalanced n level)) [ inl e ↦ sym (ap not e) | inr e ↦ absurd (differ false (d.1 (fit n level e)) refl) ]

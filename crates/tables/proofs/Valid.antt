@@ -1,6 +1,7 @@
 -- Head and tables are a valid basin where each square is valid and the levels are balanced.
-use Rattle.std.proofs.Common.{◌≡◌, ℕ, ◌+◌, ◌-◌, ◌*◌, ◌/◌, ◌<◌, Bool, true, false, not, ◌||◌, Ok, Err, sym, refl, ap, ◌∙◌, inl, inr, arith}
+use Rattle.std.proofs.Common.{◌≡◌, ℕ, ◌+◌, ◌-◌, ◌*◌, ◌/◌, ◌<◌, Bool, true, false, not, ◌||◌, Decides, Ok, Err, sym, refl, ap, ◌∙◌, inl, inr, arith}
 use Rattle.std.proofs.lemmas.Bool.{cases_Bool}
+use Rattle.std.proofs.lemmas.Bool.Decides.{not_from_Decides}
 use Rattle.basin.specs.declared.refusal.Refusal.TheVariants.{TableLength, NotABasin}
 use Rattle.basin.specs.Basins.{Basin, side, view, Heads, Full, ValidBasin}
 use Rattle.basin.specs.Flaws.{flaw_at, flaw_between, flawed, no_head, no_basin, validity}
@@ -14,7 +15,7 @@ use Rattle.tables.specs.Alike.{RowsValid}
 use Rattle.tables.proofs.Uniform.{start, start_le, uniform}
 
 -- where each square is valid, only the balance is left to ask
-pub valid_where_balanced : (b : Basin) → Heads b.head → RowsValid b (side b.head)
+valid_where_balanced : (b : Basin) → Heads b.head → RowsValid b (side b.head)
     → not (unbalanced (side b.head) (view b).level) ≡ not (no_basin b)
 unfolding flawed no_basin
 valid_where_balanced b good rows =
@@ -51,7 +52,7 @@ module _ (b : Basin) (none-at : some_square (side b.head) (flaw_at (view b)) ≡
           → ((view b).level p q ≡ (view b).level x y) × ((view b).leaf p q ≡ (view b).leaf x y)
       same p q d e = alike (view b) x y p q (none_pair (side b.head) (flaw_between (view b)) none_between x y p q a c d e)
 
-pub invalid_where_not : (b : Basin) → (RowsValid b (side b.head) → ⊥) → false ≡ not (no_basin b)
+invalid_where_not : (b : Basin) → (RowsValid b (side b.head) → ⊥) → false ≡ not (no_basin b)
 unfolding flawed no_basin
 invalid_where_not b h =
     elim (cases_Bool (no_basin b)) [
@@ -62,6 +63,14 @@ invalid_where_not b h =
           let r = or_false (some_pair (side b.head) (flaw_between (view b))) (unbalanced (side b.head) (view b).level) q.1 in
           absurd (h (valid_without_flaw b q.0 r.0))
     ]
+
+-- what decides whether all squares are valid decides validity, but for the balance
+pub valid_where_decided : (b : Basin) (r : Bool) → Heads b.head → Decides r (RowsValid b (side b.head)) → r ≡ true
+    → not (unbalanced (side b.head) (view b).level) ≡ not (no_basin b)
+valid_where_decided b r good d t = valid_where_balanced b good (d.0 t)
+
+pub invalid_where_decided : (b : Basin) (r : Bool) → Decides r (RowsValid b (side b.head)) → r ≡ false → r ≡ not (no_basin b)
+invalid_where_decided b r d f = f ∙ invalid_where_not b (not_from_Decides r d f)
 
 -- ---- what the test says of validity
 pub told_misfit : (b : Basin) → (Full b.head b.tables → ⊥) → (Err TableLength ≡ validity b) × (ValidBasin b → ⊥)

@@ -2,7 +2,9 @@
 ghost use Rattle.std.specs.Prelude.{◌≡◌, ◌*◌, ◌<◌, not, length, Decides};
 ghost use Rattle.basin.specs.Squares.{unbalanced};
 ghost use Rattle.basin.specs.Tables.{entry};
-ghost use Rattle.tables.specs.Beside.{Close, FitsBeside, RowFits};
+ghost use Rattle.tables.specs.Beside.{Close, FitsBeside};
+
+use basin::window::Window;
 
 /// Whether two levels are at most one apart.
 fn close_levels(a: u8, b: u8) -> bool
@@ -44,31 +46,12 @@ fn fits_beside(levels: &[u8], n: usize, x: usize, y: usize) -> bool
     true
 }
 
-/// Whether each square of a row fits beside its neighbours.
-fn row_fits(levels: &[u8], n: usize, y: usize) -> bool
-    requires full { length levels.now ≡ n * n }
-    requires up { y < n }
-    ensures { Decides result (RowFits n (entry n 0 levels.now) y) }
-{
-    for x in 0..n {
-        if !fits_beside(levels, n, x, y) {
-            return false;
-        }
-    }
-    true
-}
-
 /// Whether squares that share an edge or a corner are at most one level apart.
 pub fn is_balanced(levels: &[u8], n: usize) -> bool
     requires full { length levels.now ≡ n * n }
     ensures { result ≡ not (unbalanced n (λ x y. entry n 0 levels.now x y)) }
 {
-    for y in 0..n {
-        if !row_fits(levels, n, y) {
-            return false;
-        }
-    }
-    true
+    Window::whole(n).passes(|x, y| fits_beside(levels, n, x, y))
 }
 
 #[cfg(test)]

@@ -2,13 +2,14 @@
 ghost use Rattle.std.specs.Prelude.{◌≡◌, ◌+◌, ◌*◌, ◌^◌, ◌<◌, ◌≤◌, not, length, Decides, MatchResult};
 ghost use Rattle.basin.specs.Basins.{basin_of, heading, tables, Full, ValidBasin};
 ghost use Rattle.basin.specs.Flaws.{bad_square, no_basin, validity};
-ghost use Rattle.tables.specs.Alike.{Alike, FitsBlock, SquareValid, RowValid};
+ghost use Rattle.tables.specs.Alike.{Alike, FitsBlock, SquareValid};
 
 use crate::balance::is_balanced;
 use basin::head::Head;
 use basin::leaf::{Leaf, may_hold, may_run};
 use basin::refusal::Refusal;
 use basin::size::{place, side};
+use basin::window::Window;
 
 /// Whether a square's own numbers are in their ranges, in a basin of `levels` levels.
 fn in_range(levels: u8, level: u8, bed: u16, leaf: Leaf) -> bool
@@ -81,32 +82,14 @@ fn square_valid(
     fits_block(levels, leaves, n, side(head.levels - level), x, y)
 }
 
-/// Whether each square of a row is valid.
-fn row_valid(head: Head, levels: &[u8], beds: &[u16], leaves: &[Leaf], y: usize) -> bool
-    requires full { Full (heading head) (tables levels.now beds.now leaves.now) }
-    requires up { y < 2 ^ head.levels }
-    ensures { Decides result (RowValid (basin_of head levels.now beds.now leaves.now) y) }
-{
-    for x in 0..head.side() {
-        if !square_valid(head, levels, beds, leaves, x, y) {
-            return false;
-        }
-    }
-    true
-}
-
 /// Whether head and tables, of the right lengths, are a valid basin.
 fn is_valid(head: Head, levels: &[u8], beds: &[u16], leaves: &[Leaf]) -> bool
     requires { Full (heading head) (tables levels.now beds.now leaves.now) }
     ensures { result ≡ not (no_basin (basin_of head levels.now beds.now leaves.now)) }
 {
     let n = head.side();
-    for y in 0..n {
-        if !row_valid(head, levels, beds, leaves, y) {
-            return false;
-        }
-    }
-    is_balanced(levels, n)
+    let valid = Window::whole(n).passes(|x, y| square_valid(head, levels, beds, leaves, x, y));
+    valid && is_balanced(levels, n)
 }
 
 /// Whether head and tables are a valid basin, and which of the first two refusals says that they are not.
@@ -114,8 +97,7 @@ pub fn validate(head: Head, levels: &[u8], beds: &[u16], leaves: &[Leaf]) -> Res
     ensures verdict { result ≡ validity (basin_of head levels.now beds.now leaves.now) }
     ensures valid { MatchResult result (λ _. ValidBasin (basin_of head levels.now beds.now leaves.now)) (λ _. (ValidBasin (basin_of head levels.now beds.now leaves.now) → ⊥)) }
 {
-    let squares = head.squares();
-    if levels.len() != squares || beds.len() != squares || leaves.len() != squares {
+    if !head.fits(levels, beds, leaves) {
         return Err(Refusal::TableLength);
     }
     if is_valid(head, levels, beds, leaves) {
