@@ -24,7 +24,8 @@ decided_by_rows n P r w e told has lacks =
     let west : w.west ≡ 0 = ap (λ v. v.west) e in
     let south : w.south ≡ 0 = ap (λ v. v.south) e in
     let d = decided_by_squares w P r told
-        (λ x y s. has x y (omega (arith, s.east)) (omega (arith, s.north)))
-        (λ x y s. lacks x y (omega (arith, s.east)) (omega (arith, s.north))) in
-    (λ t y b x a. d.0 t x y (record { west = omega arith; east = omega arith; south = omega arith; north = omega arith }),
-    λ h. d.1 (λ x y s. h y (omega (arith, s.north)) x (omega (arith, s.east))))
+    (λ x y s. has x y (omega (arith, s.east)) (omega (arith, s.north)))
+    (λ x y s. lacks x y (omega (arith, s.east)) (omega (arith, s.north))) in (
+      λ t y b x a. d.0 t x y (record { west = omega arith; east = omega arith; south = omega arith; north = omega arith }),
+      λ h. d.1 (λ x y s. h y (omega (arith, s.north)) x (omega (arith, s.east))),
+    )

@@ -12,3 +12,4 @@ pub mod Fills
 pub mod Finish
 pub mod Places
 pub mod Windows
+pub mod Plots

@@ -1,7 +1,9 @@
 // Places and neighbours of squares.
 ghost use Rattle.std.specs.Prelude.{◌≡◌, ◌+◌, ◌-◌, ◌*◌, ◌/◌, ◌<◌, ◌≤◌, MatchOption};
 ghost use Rattle.basin.specs.Places.{IsAt};
+ghost use Rattle.basin.specs.Plots.{Covered, Spans};
 
+use crate::plot::Plot;
 use crate::size::place;
 use crate::square::Square;
 
@@ -14,16 +16,16 @@ impl Square {
         place(self.n, self.x, self.y)
     }
 
-    /// The south-west square of the block of side `s` that the square lies in.
-    pub fn corner(self, s: usize) -> Square
-        requires { 0 < s }
-        ensures { IsAt (self.x / s * s) (self.y / s * s) self.n result }
+    /// The block of side `side` that the square lies in, where blocks of that side cover the basin.
+    pub fn plot(self, side: usize) -> Plot
+        requires { Covered side self.n }
+        ensures { Spans self.n (self.x / side * side) (self.y / side * side) side result }
     {
-        let Square { x, y, n } = self;
-        Square {
-            x: x / s * s,
-            y: y / s * s,
-            n,
+        Plot {
+            n: self.n,
+            west: self.x / side * side,
+            south: self.y / side * side,
+            side,
         }
     }
 

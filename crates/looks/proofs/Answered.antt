@@ -1,14 +1,17 @@
 -- What the calls answer, case by case.
-use Rattle.std.proofs.Common.{◌≡◌, ℕ, ◌+◌, ◌*◌, ◌<◌, ◌≤◌, ◌⊎◌, get_or, ℤ, Ok, Err, sym, refl, ap, ◌∙◌, arith}
+use Rattle.std.proofs.Common.{◌≡◌, ℕ, ◌<◌, Ok, Err, sym, refl, ◌∙◌, arith}
 use Rattle.std.proofs.lemmas.Bool.Decides.{nat_tests}
+use Rattle.basin.specs.declared.leaf.Leaf.{Leaf}
 use Rattle.basin.specs.declared.refusal.Refusal.{Refusal}
 use Rattle.basin.specs.declared.refusal.Refusal.TheVariants.{OffGrid}
-use Rattle.basin.specs.Basins.{Basin, view}
+use Rattle.basin.specs.declared.square.Square.{Square}
+use Rattle.basin.specs.Basins.{Basin, side, view}
 use Rattle.basin.specs.Flaws.{validity}
-use Rattle.basin.specs.Records.{dry}
+use Rattle.basin.specs.Places.{IsAt}
 use Rattle.basin.specs.Squares.{surface}
 use Rattle.basin.specs.Totals.{total}
-use Rattle.basin.specs.Views.{size}
+use Rattle.tables.specs.Surveys.{surveyed}
+use Rattle.tables.specs.declared.survey.Survey.{Survey}
 use Rattle.looks.specs.declared.look.Look.{Look}
 use Rattle.looks.specs.Looks.{seen, look_of, total_of}
 
@@ -22,24 +25,22 @@ unfolding total_of
 total_refused b e h = rw (sym h) refl
 
 -- a square outside the basin
-pub look_off : (b : Basin) (x y n : ℕ) → Ok tt ≡ validity b → n ≡ size (view b) → (n ≤ x) ⊎ ((x < n) × (n ≤ y)) → Err OffGrid ≡ look_of b x y
+pub look_off : (b : Basin) (x y : ℕ) → Ok tt ≡ validity b → (x < side b.head → y < side b.head → ⊥) → Err OffGrid ≡ look_of b x y
 unfolding look_of
-look_off b x y n h e off = rw (sym h, sym e) (grind (arith, nat_tests))
+look_off b x y h off = rw (sym h) (grind (arith, nat_tests))
 
--- a square of a valid basin, from the side n of the basin, the place p of the square and its surface number w
-pub seen_is : (b : Basin) (x y n p w : ℕ) (e f : ℤ) → n ≡ size (view b) → p ≡ y * n + x → w ≡ surface (view b) x y
-    → e ≡ (get_or b.tables.leaves p dry).east → f ≡ (get_or b.tables.leaves p dry).north
-    → record { level = get_or b.tables.levels p 0; water = (get_or b.tables.leaves p dry).water; surface = w; east = e; north = f } ≡ seen (view b) x y
-seen_is b x y n p w e f en ep ew ee ef =
-    let at : p ≡ y * size (view b) + x = ep ∙ ap (λ k. y * k + x) en in
-    let east : e ≡ ((view b).leaf x y).east = ee ∙ ap (λ q. (get_or b.tables.leaves q dry).east) at in
-    let north : f ≡ ((view b).leaf x y).north = ef ∙ ap (λ q. (get_or b.tables.leaves q dry).north) at in
-    λ i. record { level = get_or b.tables.levels (at i) 0; water = (get_or b.tables.leaves (at i) dry).water; surface = ew i; east = east i; north = north i }
+-- a square of a valid basin, by what its survey says
+pub seen_is : (s : Survey) (b : Basin) (q : Square) (x y k w : ℕ) (l : Leaf) → surveyed s ≡ b → IsAt x y (side b.head) q
+    → k ≡ (view (surveyed s)).level q.x q.y → l ≡ (view (surveyed s)).leaf q.x q.y → w ≡ surface (view (surveyed s)) q.x q.y
+    → record { level = k; water = l.water; surface = w; east = l.east; north = l.north } ≡ seen (view b) x y
+seen_is s b q x y k w l e at ek el ew =
+    (λ i. record { level = ek i; water = (el i).water; surface = ew i; east = (el i).east; north = (el i).north })
+    ∙ (λ i. seen (view (e i)) (at.x_is i) (at.y_is i))
 
-pub look_granted : (b : Basin) (x y n : ℕ) (l : Look) → Ok tt ≡ validity b → n ≡ size (view b) → x < n → y < n → l ≡ seen (view b) x y
+pub look_granted : (b : Basin) (x y : ℕ) (l : Look) → Ok tt ≡ validity b → x < side b.head → y < side b.head → l ≡ seen (view b) x y
     → Ok l ≡ look_of b x y
 unfolding look_of
-look_granted b x y n l h e across up s = rw (sym h, sym e, s) (grind (arith, nat_tests))
+look_granted b x y l h across up s = rw (sym h, s) (grind (arith, nat_tests))
 
 pub total_granted : (b : Basin) → Ok tt ≡ validity b → Ok (total b) ≡ total_of b
 unfolding total_of

@@ -8,8 +8,7 @@ use crate::surface::surface_at;
 use basin::head::Head;
 use basin::leaf::Leaf;
 use basin::refusal::Refusal;
-use basin::size::place;
-use tables::validity::validate;
+use tables::survey::Survey;
 
 /// What there is at a square: its leaf's level, water, surface number and discharges.
 pub fn look(
@@ -22,20 +21,17 @@ pub fn look(
 ) -> Result<Look, Refusal>
     ensures { result ≡ look_of (basin_of head levels.now beds.now leaves.now) x y }
 {
-    validate(head, levels, beds, leaves)?;
-    let n = head.side();
-    if x >= n || y >= n {
+    let survey = Survey::new(head, levels, beds, leaves)?;
+    let Some(square) = head.square(x, y) else {
         return Err(Refusal::OffGrid);
-    }
-    let here = place(n, x, y);
-    let leaf = leaves[here];
-    let surface = surface_at(head, levels, beds, leaves, x, y);
+    };
+    let Leaf { water, east, north } = survey.leaf(square);
     Ok(Look {
-        level: levels[here],
-        water: leaf.water,
-        surface,
-        east: leaf.east,
-        north: leaf.north,
+        level: survey.level(square),
+        water,
+        surface: surface_at(&survey, square),
+        east,
+        north,
     })
 }
 

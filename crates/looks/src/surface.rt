@@ -1,61 +1,50 @@
 // Bed sums and surface numbers.
-ghost use Rattle.std.specs.Prelude.{◌≡◌, ◌+◌, ◌*◌, ◌^◌, ◌<◌, ◌≤◌, length, slice_index};
-ghost use Rattle.basin.specs.Basins.{heading, side, basin_of, view, ValidBasin};
+ghost use Rattle.std.specs.Prelude.{◌≡◌, ◌+◌, ◌*◌, ◌/◌, ◌≤◌, length, sum};
+ghost use Rattle.basin.specs.Basins.{view};
+ghost use Rattle.basin.specs.Plots.{ground};
 ghost use Rattle.basin.specs.Squares.{surface};
-ghost use Rattle.basin.specs.Sums.{sum_below, grid};
-ghost use Rattle.basin.specs.Tables.{entry};
+ghost use Rattle.tables.specs.Surveys.{surveyed, On};
 
-use basin::head::Head;
-use basin::leaf::Leaf;
-use basin::size::{place, side};
+use basin::plot::Plot;
+use basin::square::Square;
+use tables::survey::Survey;
 
-/// The sum of the beds of `count` squares, eastward from entry `start`.
-fn row_beds(beds: &[u16], start: usize, count: usize) -> u64
-    requires few { count ≤ 64 }
-    requires within { start + count ≤ length beds.now }
-    ensures value { result ≡ sum_below count (λ i. slice_index beds.now (start + i)) }
-    ensures most { result ≤ 65535 * count }
+/// The sum of the beds of a row.
+fn row_beds(row: &[u16]) -> u64
+    requires { length row.now ≤ 64 }
+    ensures value { result ≡ sum row.now }
+    ensures most { result ≤ 65535 * length row.now }
 {
-    let mut sum = 0;
-    for i in 0..count {
-        sum += beds[start + i] as u64;
-    }
-    sum
+    row.iter().map(|bed| *bed as u64).sum()
 }
 
-/// The sum of the beds of a block of `count` by `count` squares, of which (x, y) is the south-west one, in a basin of `n` by `n`.
-pub fn block_beds(beds: &[u16], n: usize, x: usize, y: usize, count: usize) -> u64
-    requires few { count ≤ 64 }
-    requires full { length beds.now ≡ n * n }
-    requires east { x + count ≤ n }
-    requires north { y + count ≤ n }
-    ensures value { result ≡ grid count (λ i j. entry n 0 beds.now (x + i) (y + j)) }
+/// The sum of the beds of a plot.
+pub fn block_beds(beds: &[u16], plot: Plot) -> u64
+    requires { length beds.now ≡ plot.n * plot.n }
+    ensures value { result ≡ ground plot beds.now }
     ensures most { result ≤ 65535 * 4096 }
 {
     let mut sum = 0;
-    for j in 0..count {
-        sum += row_beds(beds, (y + j) * n + x, count);
+    for j in 0..plot.side {
+        let start = (plot.south + j) * plot.n + plot.west;
+        sum += row_beds(&beds[start..start + plot.side]);
     }
     sum
 }
 
-/// The surface number W at a square of a valid basin: water and beds of its leaf together, shared out over the leaf's area.
-pub fn surface_at(
-    head: Head,
-    levels: &[u8],
-    beds: &[u16],
-    leaves: &[Leaf],
-    x: usize,
-    y: usize,
-) -> u64
-    requires valid { ValidBasin (basin_of head levels.now beds.now leaves.now) }
-    requires east { x < side (heading head) }
-    requires north { y < side (heading head) }
-    ensures { result ≡ surface (view (basin_of head levels.now beds.now leaves.now)) x y }
+/// The surface number of a leaf on a plot that holds `water`: water and beds together, shared out over the leaf's area.
+pub fn surface_of(beds: &[u16], plot: Plot, water: u32) -> u64
+    requires { length beds.now ≡ plot.n * plot.n }
+    ensures { result ≡ (water + ground plot beds.now) / (plot.side * plot.side) }
 {
-    let n = head.side();
-    let here = place(n, x, y);
-    let s = side(head.levels - levels[here]);
-    let ground = block_beds(beds, n, x / s * s, y / s * s, s);
-    (leaves[here].water as u64 + ground) / (s * s) as u64
+    (water as u64 + block_beds(beds, plot)) / plot.area() as u64
+}
+
+/// The surface number W at a square of a valid basin.
+pub fn surface_at(survey: &Survey<'_>, square: Square) -> u64
+    requires { On (surveyed survey.now) square }
+    ensures { result ≡ surface (view (surveyed survey.now)) square.x square.y }
+{
+    let plot = survey.block(survey.level(square), square);
+    surface_of(survey.beds, plot, survey.leaf(square).water)
 }

@@ -1,12 +1,16 @@
 // Making surveys.
-ghost use Rattle.basin.specs.Basins.{basin_of};
-ghost use Rattle.tables.specs.Surveys.{Surveys};
+ghost use Rattle.std.specs.Prelude.{◌≡◌, ◌≤◌};
+ghost use Rattle.basin.specs.Basins.{basin_of, view};
+ghost use Rattle.tables.specs.Surveys.{Surveys, surveyed, On, BlockAt};
 
 use crate::survey::Survey;
 use crate::validity::validate;
 use basin::head::Head;
 use basin::leaf::Leaf;
+use basin::plot::Plot;
 use basin::refusal::Refusal;
+use basin::size::side;
+use basin::square::Square;
 
 impl<'a> Survey<'a> {
     /// The survey of a head and its tables, or which of the first two refusals says that they are no valid basin.
@@ -25,5 +29,31 @@ impl<'a> Survey<'a> {
             beds,
             leaves,
         })
+    }
+
+    /// The level of the leaf at a square.
+    pub fn level(&self, square: Square) -> u8
+        requires { On (surveyed self.now) square }
+        ensures value { result ≡ (view (surveyed self.now)).level square.x square.y }
+        ensures most { result ≤ self.now.head.levels }
+    {
+        self.levels[square.entry()]
+    }
+
+    /// The record of the leaf at a square.
+    pub fn leaf(&self, square: Square) -> Leaf
+        requires { On (surveyed self.now) square }
+        ensures { result ≡ (view (surveyed self.now)).leaf square.x square.y }
+    {
+        self.leaves[square.entry()]
+    }
+
+    /// The block of a level that a square lies in.
+    pub fn block(&self, level: u8, square: Square) -> Plot
+        requires on { On (surveyed self.now) square }
+        requires deep { level ≤ self.now.head.levels }
+        ensures { BlockAt (surveyed self.now) level square.x square.y result }
+    {
+        square.plot(side(self.head.levels - level))
     }
 }

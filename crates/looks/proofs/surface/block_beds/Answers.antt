@@ -1,19 +1,25 @@
-use Rattle.std.proofs.Common.{◌+◌, ◌∙◌, arith}
+-- One more row is summed.
+use Rattle.std.proofs.Common.{◌≡◌, ◌+◌, ◌*◌, ◌<◌, ◌≤◌, ℕ, List, length, refl, ◌∙◌, arith}
+use Rattle.basin.specs.declared.plot.Plot.{Plot}
 use Rattle.basin.specs.Sums.{sum_below}
 use Rattle.basin.specs.Tables.{entry}
+use Rattle.basin.proofs.Fills.{length_part}
 use Rattle.looks.proofs.Beds.{sum_more, row_is, row_in}
 use Rattle.looks.proofs.surface.block_beds.Goals as goal
 
+within : (p : Plot) (beds : List ℕ) (j : ℕ) → length beds ≡ p.n * p.n → j < p.side → (p.south + j) * p.n + p.west + p.side ≤ length beds
+within p beds j e h = row_in p.n p.west p.south j p.side _ e p.inside.2 p.inside.3 h
+
 pub row_beds-sum-requires : goal.row_beds-sum-requires
 row_beds-sum-requires c =
-    record {
-      few = c.requires.few;
-      within = row_in c.args.n c.args.x c.args.y c.loop-j.j c.args.count _ c.requires.full c.requires.east c.requires.north (omega arith);
-    }
+    omega (arith, length_part _ c.args.plot.side c.args.beds.now (within c.args.plot c.args.beds.now c.loop-j.j c.requires c.loop-j-test.true))
 
 pub loop-j-preserved : goal.loop-j-preserved
-loop-j-preserved c = (
-  sum_more c.loop-j.j (λ j. sum_below c.args.count (λ i. entry c.args.n 0 c.args.beds.now (c.args.x + i) (c.args.y + j))) _ _
-      c.loop-j.invariant.0 (c.row_beds-sum.ensures.value ∙ row_is c.args.beds.now c.args.n c.args.x c.args.y c.loop-j.j c.args.count),
-  omega (arith, c.row_beds-sum.ensures.most),
-)
+loop-j-preserved c =
+    let p = c.args.plot in
+    let beds = c.args.beds.now in
+    let in_table = within p beds c.loop-j.j c.requires c.loop-j-test.true in (
+      sum_more c.loop-j.j (λ j. sum_below p.side (λ i. entry p.n 0 beds (p.west + i) (p.south + j))) _ _
+          c.loop-j.invariant.0 (c.row_beds-sum.ensures.value ∙ row_is beds p.n p.west p.south c.loop-j.j p.side _ refl in_table),
+      omega (arith, c.row_beds-sum.ensures.most, length_part _ p.side beds in_table, p.inside),
+    )
