@@ -22,7 +22,8 @@ impl Plot {
         ensures value { result ≡ self.side * self.side }
         ensures most { result ≤ 4096 }
     {
-        self.side * self.side
+        let side = self.side;
+        side * side
     }
 
     /// The squares.

@@ -1,15 +1,16 @@
 -- What pour, draw and settle reply and leave, case by case.
-use Rattle.std.proofs.Common.{◌≡◌, ℕ, ◌+◌, ◌-◌, ◌*◌, ◌/◌, ◌<◌, ◌≤◌, Bool, true, false, cond, not, ltb, List, get_or, Ok, Err, sym, refl, ap, ◌∙◌, arith}
+use Rattle.std.proofs.Common.{◌≡◌, ℕ, ◌+◌, ◌-◌, ◌*◌, ◌/◌, ◌<◌, ◌≤◌, Bool, true, false, cond, not, ltb, List, Ok, Err, sym, refl, ap, ◌∙◌, arith}
 use Rattle.std.proofs.lemmas.Bool.{lt-ltb, le-ltb}
 use Rattle.basin.specs.declared.leaf.Leaf.{Leaf}
 use Rattle.basin.specs.declared.refusal.Refusal.{Refusal}
 use Rattle.basin.specs.declared.refusal.Refusal.TheVariants.{OutOfRange, Overdrawn, LeafFull}
 use Rattle.basin.specs.Basins.{Basin, basin, tables, view}
-use Rattle.basin.specs.Records.{dry, may_hold}
+use Rattle.basin.specs.Plots.{ground}
+use Rattle.basin.specs.Records.{may_hold}
 use Rattle.basin.specs.Squares.{water}
 use Rattle.runs.specs.Calls.{pour, draw, settle, granted, refused, outside, full, perform}
 use Rattle.calls.specs.declared.spot.Spot.{Spot}
-use Rattle.calls.specs.Spots.{placing, Located, ground_at, refilled}
+use Rattle.calls.specs.Spots.{placing, Located, refilled}
 use Rattle.calls.proofs.Refilled.{water_is, full_is, basin_made, surface_made}
 use Rattle.calls.proofs.Verdicts.{refuses, strikes, grants}
 
@@ -27,10 +28,10 @@ module _ (b : Basin) (x y : ℕ) (e : Refusal) (h : placing b x y ≡ Err e) whe
 module _ (b : Basin) (x y : ℕ) (s : Spot) (l : Located b x y s) where
   -- the water that the leaf holds, as the code reads it
   abbrev held : ℕ
-  held = (get_or b.tables.leaves s.here dry).water
+  held = s.leaf.water
 
   -- the leaf has room for so much more, or has not
-  has_room : (more : ℕ) (r : Bool) → r ≡ may_hold (s.side * s.side) (held + more) → full (view b) x y (water (view b) x y + more) ≡ not r
+  has_room : (more : ℕ) (r : Bool) → r ≡ may_hold (s.plot.side * s.plot.side) (held + more) → full (view b) x y (water (view b) x y + more) ≡ not r
   has_room more r e = sym (full_is b x y s l more) ∙ ap not (sym e)
 
   -- the amount is out of its range
@@ -44,14 +45,14 @@ module _ (b : Basin) (x y : ℕ) (s : Spot) (l : Located b x y s) where
         (λ i. cond (out i) (Err OutOfRange) (cond (ltb (water (view b) x y) a) (Err Overdrawn) (Ok tt)))
 
   -- ---- pour
-  module _ (a : ℕ) (ok : outside 1 122880000 a ≡ false) (room : Bool) (told : room ≡ may_hold (s.side * s.side) (held + a)) where
+  module _ (a : ℕ) (ok : outside 1 122880000 a ≡ false) (room : Bool) (told : room ≡ may_hold (s.plot.side * s.plot.side) (held + a)) where
     pub pour_full : room ≡ false → (refused LeafFull, b) ≡ perform (pour x y a) b
     pour_full e =
         let no = has_room a room told ∙ ap not e in
         strikes b x y (pour x y a) (λ l v. refl) (λ n. refl) l.passed LeafFull (λ i. cond (ok i) (Err OutOfRange) (cond (no i) (Err LeafFull) (Ok tt)))
 
     pub pour_granted : room ≡ true → (leaves : List Leaf) (r : ℕ) → leaves ≡ refilled s (held + a) b.tables.leaves
-        → r ≡ (held + a + ground_at s b.tables.beds) / (s.side * s.side)
+        → r ≡ (held + a + ground s.plot b.tables.beds) / (s.plot.side * s.plot.side)
         → (granted r, basin b.head (tables b.tables.levels b.tables.beds leaves)) ≡ perform (pour x y a) b
     pour_granted e leaves r filled w =
         let yes = has_room a room told ∙ ap not e in
@@ -67,7 +68,7 @@ module _ (b : Basin) (x y : ℕ) (s : Spot) (l : Located b x y s) where
         strikes b x y (draw x y a) (λ l v. refl) (λ n. refl) l.passed Overdrawn (λ i. cond (ok i) (Err OutOfRange) (cond (over i) (Err Overdrawn) (Ok tt)))
 
     pub draw_granted : a ≤ held → (leaves : List Leaf) (r : ℕ) → leaves ≡ refilled s (held - a) b.tables.leaves
-        → r ≡ (held - a + ground_at s b.tables.beds) / (s.side * s.side)
+        → r ≡ (held - a + ground s.plot b.tables.beds) / (s.plot.side * s.plot.side)
         → (granted r, basin b.head (tables b.tables.levels b.tables.beds leaves)) ≡ perform (draw x y a) b
     draw_granted h leaves r filled w =
         let enough : ltb (water (view b) x y) a ≡ false = le-ltb _ _ (omega (arith, water_is b x y s l)) in
@@ -76,7 +77,7 @@ module _ (b : Basin) (x y : ℕ) (s : Spot) (l : Located b x y s) where
         ∙ grants b x y (draw x y a) (λ l v. refl) (λ n. refl) l.passed (λ i. cond (ok i) (Err OutOfRange) (cond (enough i) (Err Overdrawn) (Ok tt)))
 
   -- ---- settle
-  module _ (room : Bool) (told : room ≡ may_hold (s.side * s.side) (held + b.head.loose)) where
+  module _ (room : Bool) (told : room ≡ may_hold (s.plot.side * s.plot.side) (held + b.head.loose)) where
     pub settle_full : room ≡ false → (refused LeafFull, b) ≡ perform (settle x y) b
     settle_full e =
         let no = has_room b.head.loose room told ∙ ap not e in

@@ -32,8 +32,8 @@ pub fn pour(
     if out_of_range(amount) {
         return Err(Refusal::OutOfRange);
     }
-    let water = leaves[spot.here].water as u64 + amount as u64;
-    if !may_hold(spot.side * spot.side, water) {
+    let water = spot.leaf.water as u64 + amount as u64;
+    if !may_hold(spot.plot.area(), water) {
         return Err(Refusal::LeafFull);
     }
     Ok(refill(spot, beds, leaves, water as u32))
@@ -55,7 +55,7 @@ pub fn draw(
     if out_of_range(amount) {
         return Err(Refusal::OutOfRange);
     }
-    let water = leaves[spot.here].water;
+    let water = spot.leaf.water;
     if amount > water {
         return Err(Refusal::Overdrawn);
     }
@@ -75,8 +75,8 @@ pub fn settle(
 {
     let spot = locate(*head, levels, beds, leaves, x, y)?;
     let loose = head.loose;
-    let water = leaves[spot.here].water as u64 + loose as u64;
-    if !may_hold(spot.side * spot.side, water) {
+    let water = spot.leaf.water as u64 + loose as u64;
+    if !may_hold(spot.plot.area(), water) {
         return Err(Refusal::LeafFull);
     }
     let _ = refill(spot, beds, leaves, water as u32);

@@ -2,7 +2,7 @@
 use Rattle.std.proofs.Common.{sym, ◌∙◌, arith}
 use Rattle.std.proofs.lemmas.Result.{err_from_is_err_and}
 use Rattle.basin.specs.Basins.{basin_of}
-use Rattle.calls.proofs.Placing.{located_fits}
+use Rattle.calls.proofs.Refilled.{beds_long, leaves_long}
 use Rattle.calls.proofs.Watered.{draw_refused, draw_out, draw_over, draw_granted}
 use Rattle.calls.proofs.water.draw.Goals as goal
 
@@ -16,18 +16,15 @@ returns-then-out_of_range c =
     draw_out (basin_of c.args.head c.args.levels.now c.args.beds.now c.args.leaves.now) _ _ _
     c.in_ok-spot.ensures _ (sym c.out_of_range.ensures ∙ c.if-out_of_range.true)
 
-pub bounds-leaves-spot : goal.bounds-leaves-spot
-bounds-leaves-spot c =
-    let f = located_fits (basin_of c.args.head c.args.levels.now c.args.beds.now c.args.leaves.now) _ _ _ c.in_ok-spot.ensures in
-    omega (arith, f.inside, f.all_leaves)
-
 pub returns-then-amount-water : goal.returns-then-amount-water
 returns-then-amount-water c =
     draw_over (basin_of c.args.head c.args.levels.now c.args.beds.now c.args.leaves.now) _ _ _
     c.in_ok-spot.ensures _ (sym c.out_of_range.ensures ∙ c.if-out_of_range.false) c.if-amount-water.true
 
 pub refill-requires : goal.refill-requires
-refill-requires c = located_fits (basin_of c.args.head c.args.levels.now c.args.beds.now c.args.leaves.now) _ _ _ c.in_ok-spot.ensures
+refill-requires c =
+    let b = basin_of c.args.head c.args.levels.now c.args.beds.now c.args.leaves.now in
+    record { beds = beds_long b _ _ _ c.in_ok-spot.ensures; leaves = leaves_long b _ _ _ c.in_ok-spot.ensures }
 
 pub returns : goal.returns
 returns c =

@@ -2,8 +2,7 @@
 use Rattle.std.proofs.Common.{sym, ◌∙◌, arith}
 use Rattle.std.proofs.lemmas.Result.{err_from_is_err_and}
 use Rattle.basin.specs.Basins.{basin_of}
-use Rattle.calls.proofs.Placing.{located_fits}
-use Rattle.calls.proofs.Refilled.{area_fits}
+use Rattle.calls.proofs.Refilled.{beds_long, leaves_long}
 use Rattle.calls.proofs.Watered.{pour_refused, pour_out, pour_full, pour_granted}
 use Rattle.calls.proofs.water.pour.Goals as goal
 
@@ -17,21 +16,15 @@ returns-then-out_of_range c =
     pour_out (basin_of c.args.head c.args.levels.now c.args.beds.now c.args.leaves.now) _ _ _
     c.in_ok-spot.ensures _ (sym c.out_of_range.ensures ∙ c.if-out_of_range.true)
 
-pub bounds-leaves-spot : goal.bounds-leaves-spot
-bounds-leaves-spot c =
-    let f = located_fits (basin_of c.args.head c.args.levels.now c.args.beds.now c.args.leaves.now) _ _ _ c.in_ok-spot.ensures in
-    omega (arith, f.inside, f.all_leaves)
-
-pub may_hold-requires : goal.may_hold-requires
-may_hold-requires c = area_fits (basin_of c.args.head c.args.levels.now c.args.beds.now c.args.leaves.now) _ _ _ c.in_ok-spot.ensures
-
 pub returns-then-not-may_hold : goal.returns-then-not-may_hold
 returns-then-not-may_hold c =
     pour_full (basin_of c.args.head c.args.levels.now c.args.beds.now c.args.leaves.now) _ _ _
     c.in_ok-spot.ensures _ (sym c.out_of_range.ensures ∙ c.if-out_of_range.false) _ c.may_hold.ensures c.if-not-may_hold.true
 
 pub refill-requires : goal.refill-requires
-refill-requires c = located_fits (basin_of c.args.head c.args.levels.now c.args.beds.now c.args.leaves.now) _ _ _ c.in_ok-spot.ensures
+refill-requires c =
+    let b = basin_of c.args.head c.args.levels.now c.args.beds.now c.args.leaves.now in
+    record { beds = beds_long b _ _ _ c.in_ok-spot.ensures; leaves = leaves_long b _ _ _ c.in_ok-spot.ensures }
 
 pub returns : goal.returns
 returns c =
