@@ -1,5 +1,5 @@
 -- The leaf at a square, and the refusals that every call at a square may meet.
-use Rattle.std.specs.Prelude.{◌≡◌, ℕ, ◌+◌, ◌*◌, ◌/◌, ◌<◌, ◌≤◌, cond, List, Ok, Err, Result}
+use Rattle.std.specs.Prelude.{◌≡◌, ℕ, ◌+◌, ◌*◌, ◌<◌, ◌≤◌, cond, List, Ok, Err, Result}
 use Rattle.basin.specs.declared.leaf.Leaf.{Leaf}
 use Rattle.basin.specs.declared.plot.Plot.{Plot}
 use Rattle.basin.specs.declared.refusal.Refusal.{Refusal}

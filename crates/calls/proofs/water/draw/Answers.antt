@@ -1,5 +1,5 @@
 -- Each refusal strikes in its turn, and what is granted is the draw.
-use Rattle.std.proofs.Common.{sym, ◌∙◌, arith}
+use Rattle.std.proofs.Common.{sym, ◌∙◌}
 use Rattle.std.proofs.lemmas.Result.{err_from_is_err_and}
 use Rattle.basin.specs.Basins.{basin_of}
 use Rattle.calls.proofs.Refilled.{beds_long, leaves_long}

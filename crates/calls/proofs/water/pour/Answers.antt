@@ -1,7 +1,8 @@
 -- Each refusal strikes in its turn, and what is granted is the pour.
-use Rattle.std.proofs.Common.{sym, ◌∙◌, arith}
+use Rattle.std.proofs.Common.{◌+◌, sym, ap, ◌∙◌}
 use Rattle.std.proofs.lemmas.Result.{err_from_is_err_and}
 use Rattle.basin.specs.Basins.{basin_of}
+use Rattle.basin.specs.Records.{may_hold}
 use Rattle.calls.proofs.Refilled.{beds_long, leaves_long}
 use Rattle.calls.proofs.Watered.{pour_refused, pour_out, pour_full, pour_granted}
 use Rattle.calls.proofs.water.pour.Goals as goal
@@ -19,7 +20,7 @@ returns-then-out_of_range c =
 pub returns-then-not-may_hold : goal.returns-then-not-may_hold
 returns-then-not-may_hold c =
     pour_full (basin_of c.args.head c.args.levels.now c.args.beds.now c.args.leaves.now) _ _ _
-    c.in_ok-spot.ensures _ (sym c.out_of_range.ensures ∙ c.if-out_of_range.false) _ c.may_hold.ensures c.if-not-may_hold.true
+    c.in_ok-spot.ensures _ (sym c.out_of_range.ensures ∙ c.if-out_of_range.false) _ (c.may_hold.ensures ∙ ap (λ a. may_hold a (c.in_ok-spot.spot.leaf.water + c.args.amount)) c.area.ensures.value) c.if-not-may_hold.true
 
 pub refill-requires : goal.refill-requires
 refill-requires c =
@@ -29,4 +30,4 @@ refill-requires c =
 pub returns : goal.returns
 returns c =
     pour_granted (basin_of c.args.head c.args.levels.now c.args.beds.now c.args.leaves.now) _ _ _
-    c.in_ok-spot.ensures _ (sym c.out_of_range.ensures ∙ c.if-out_of_range.false) _ c.may_hold.ensures c.if-not-may_hold.false _ _ c.refill.ensures.leaves c.refill.ensures.surface
+    c.in_ok-spot.ensures _ (sym c.out_of_range.ensures ∙ c.if-out_of_range.false) _ (c.may_hold.ensures ∙ ap (λ a. may_hold a (c.in_ok-spot.spot.leaf.water + c.args.amount)) c.area.ensures.value) c.if-not-may_hold.false _ _ c.refill.ensures.leaves c.refill.ensures.surface

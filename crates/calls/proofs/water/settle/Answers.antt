@@ -1,7 +1,8 @@
 -- Each refusal strikes in its turn, and what is granted is the settling.
-use Rattle.std.proofs.Common.{arith}
+use Rattle.std.proofs.Common.{◌+◌, ap, ◌∙◌}
 use Rattle.std.proofs.lemmas.Result.{err_from_is_err_and}
 use Rattle.basin.specs.Basins.{basin_of}
+use Rattle.basin.specs.Records.{may_hold}
 use Rattle.calls.proofs.Refilled.{beds_long, leaves_long}
 use Rattle.calls.proofs.Watered.{settle_refused, settle_full, settle_granted}
 use Rattle.calls.proofs.water.settle.Goals as goal
@@ -14,7 +15,7 @@ returns-in_err-spot c =
 pub returns-then-not-may_hold : goal.returns-then-not-may_hold
 returns-then-not-may_hold c =
     settle_full (basin_of c.args.head.now c.args.levels.now c.args.beds.now c.args.leaves.now) _ _ _
-    c.in_ok-spot.ensures _ c.may_hold.ensures c.if-not-may_hold.true
+    c.in_ok-spot.ensures _ (c.may_hold.ensures ∙ ap (λ a. may_hold a (c.in_ok-spot.spot.leaf.water + c.args.head.now.loose)) c.area.ensures.value) c.if-not-may_hold.true
 
 pub refill-requires : goal.refill-requires
 refill-requires c =
@@ -24,4 +25,4 @@ refill-requires c =
 pub returns : goal.returns
 returns c =
     settle_granted (basin_of c.args.head.now c.args.levels.now c.args.beds.now c.args.leaves.now) _ _ _
-    c.in_ok-spot.ensures _ c.may_hold.ensures c.if-not-may_hold.false _ c.refill.ensures.leaves
+    c.in_ok-spot.ensures _ (c.may_hold.ensures ∙ ap (λ a. may_hold a (c.in_ok-spot.spot.leaf.water + c.args.head.now.loose)) c.area.ensures.value) c.if-not-may_hold.false _ c.refill.ensures.leaves
