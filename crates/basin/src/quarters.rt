@@ -29,4 +29,12 @@ impl<T: Copy> Quarters<T> {
             ne: f(self.ne),
         }
     }
+
+    /// Whether one of them passes a test.
+    pub fn any<F: Fn(T) -> bool>(self, test: F) -> bool
+        requires { F.IsAlwaysCallable test }
+        ensures { MatchBool result (F.post test self.sw true ⊎ (F.post test self.se true ⊎ (F.post test self.nw true ⊎ F.post test self.ne true))) (F.post test self.sw false × (F.post test self.se false × (F.post test self.nw false × F.post test self.ne false))) }
+    {
+        test(self.sw) || test(self.se) || test(self.nw) || test(self.ne)
+    }
 }

@@ -1,6 +1,6 @@
 // Windows of squares.
 ghost use Rattle.std.specs.Prelude.{◌≡◌, ℕ, true, false, ◌<◌, ◌≤◌, MatchBool};
-ghost use Rattle.basin.specs.Windows.{Seen, whole_of};
+ghost use Rattle.basin.specs.Windows.{Seen, ring_at, whole_of};
 
 /// The squares from `west` to before `east` of the rows from `south` to before `north`.
 #[derive(Clone, Copy)]
@@ -21,6 +21,20 @@ impl Window {
             east: n,
             south: 0,
             north: n,
+        }
+    }
+
+    /// The window with the squares that touch it, in a basin of `n` by `n` squares.
+    pub fn ring(self, n: usize) -> Window
+        requires east { self.east ≤ 64 }
+        requires north { self.north ≤ 64 }
+        ensures { result ≡ ring_at n self }
+    {
+        Window {
+            west: self.west.saturating_sub(1),
+            east: n.min(self.east + 1),
+            south: self.south.saturating_sub(1),
+            north: n.min(self.north + 1),
         }
     }
 

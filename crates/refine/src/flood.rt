@@ -1,145 +1,69 @@
 // Whether dry ground would lie below the water beside it.
-ghost use Rattle.std.specs.Prelude.{◌≡◌, ◌<◌, ◌≤◌, Decides};
-ghost use Rattle.basin.specs.Basins.{heading, side as side_by, basin_of, view, ValidBasin};
+ghost use Rattle.std.specs.Prelude.{◌≡◌, false, ◌<◌, ◌≤◌, Decides, MatchOption};
+ghost use Rattle.basin.specs.Basins.{heading, side, view};
 ghost use Rattle.basin.specs.Squares.{bed_number as bed_number_of};
-ghost use Rattle.refine.specs.Floods.{flows_onto as flows_onto_of, DrySquare, DryRow, DryWindow};
+ghost use Rattle.tables.specs.Surveys.{surveyed, On};
+ghost use Rattle.refine.specs.Floods.{flows_onto as flows_onto_of, DrySquare, DryWindow};
 
-use crate::window::Window;
-use basin::head::Head;
-use basin::leaf::Leaf;
-use basin::size::{place, side};
+use basin::square::Square;
+use basin::window::Window;
 use looks::surface::{block_beds, surface_at};
+use tables::survey::Survey;
 
 /// The bed number that a leaf of `level` has at a square of a valid basin.
-fn bed_number(
-    head: Head,
-    levels: &[u8],
-    beds: &[u16],
-    leaves: &[Leaf],
-    level: u8,
-    x: usize,
-    y: usize,
-) -> u64
-    requires valid { ValidBasin (basin_of head levels.now beds.now leaves.now) }
-    requires deep { level ≤ head.levels }
-    requires east { x < side_by (heading head) }
-    requires north { y < side_by (heading head) }
-    ensures { result ≡ bed_number_of (view (basin_of head levels.now beds.now leaves.now)) level x y }
+fn bed_number(survey: &Survey<'_>, level: u8, square: Square) -> u64
+    requires on { On (surveyed survey.now) square }
+    requires deep { level ≤ survey.now.head.levels }
+    ensures { result ≡ bed_number_of (view (surveyed survey.now)) level square.x square.y }
 {
-    let s = side(head.levels - level);
-    block_beds(beds, head.side(), x / s * s, y / s * s, s) / (s * s) as u64
+    let plot = survey.block(level, square);
+    block_beds(survey.beds, plot) / plot.area() as u64
 }
 
-/// Whether the square (p, q) is wet and its surface above the bed number of a leaf of `level` at (x, y).
-fn flows_onto(
-    head: Head,
-    levels: &[u8],
-    beds: &[u16],
-    leaves: &[Leaf],
-    level: u8,
-    x: usize,
-    y: usize,
-    p: usize,
-    q: usize,
-) -> bool
-    requires valid { ValidBasin (basin_of head levels.now beds.now leaves.now) }
-    requires deep { level ≤ head.levels }
-    requires east { x < side_by (heading head) }
-    requires north { y < side_by (heading head) }
-    requires from_east { p < side_by (heading head) }
-    requires from_north { q < side_by (heading head) }
-    ensures { result ≡ flows_onto_of (view (basin_of head levels.now beds.now leaves.now)) level x y p q }
+/// Whether the square `from` is wet and its surface above the bed number of a leaf of `level` at another.
+fn flows_onto(survey: &Survey<'_>, level: u8, square: Square, from: Square) -> bool
+    requires on { On (surveyed survey.now) square }
+    requires from { On (surveyed survey.now) from }
+    requires deep { level ≤ survey.now.head.levels }
+    ensures { result ≡ flows_onto_of (view (surveyed survey.now)) level square.x square.y from.x from.y }
 {
-    leaves[place(head.side(), p, q)].water > 0
-        && bed_number(head, levels, beds, leaves, level, x, y)
-            < surface_at(head, levels, beds, leaves, p, q)
+    survey.leaf(from).water > 0 && bed_number(survey, level, square) < surface_at(survey, from)
+}
+
+/// Whether the square `from`, if there is one, would not flow onto a leaf of `level` at another.
+fn keeps_off(survey: &Survey<'_>, level: u8, square: Square, from: Option<Square>) -> bool
+    requires on { On (surveyed survey.now) square }
+    requires from { MatchOption from (Unit {0}) (λ q. On (surveyed survey.now) q) }
+    requires deep { level ≤ survey.now.head.levels }
+    ensures { Decides result (MatchOption from (Unit {0}) (λ q. flows_onto_of (view (surveyed survey.now)) level square.x square.y q.x q.y ≡ false)) }
+{
+    match from {
+        Some(from) => !flows_onto(survey, level, square, from),
+        None => true,
+    }
 }
 
 /// Whether no square across an edge would flow onto a leaf of `level` at a square.
-fn stays_dry_at(
-    head: Head,
-    levels: &[u8],
-    beds: &[u16],
-    leaves: &[Leaf],
-    level: u8,
-    x: usize,
-    y: usize,
-) -> bool
-    requires valid { ValidBasin (basin_of head levels.now beds.now leaves.now) }
-    requires deep { level ≤ head.levels }
-    requires east { x < side_by (heading head) }
-    requires north { y < side_by (heading head) }
-    ensures { Decides result (DrySquare (view (basin_of head levels.now beds.now leaves.now)) level x y) }
+fn stays_dry_at(survey: &Survey<'_>, level: u8, square: Square) -> bool
+    requires on { On (surveyed survey.now) square }
+    requires deep { level ≤ survey.now.head.levels }
+    ensures { Decides result (DrySquare (view (surveyed survey.now)) level square.x square.y) }
 {
-    let n = head.side();
-    if x + 1 < n && flows_onto(head, levels, beds, leaves, level, x, y, x + 1, y) {
-        return false;
-    }
-    if y + 1 < n && flows_onto(head, levels, beds, leaves, level, x, y, x, y + 1) {
-        return false;
-    }
-    if x > 0 && flows_onto(head, levels, beds, leaves, level, x, y, x - 1, y) {
-        return false;
-    }
-    if y > 0 && flows_onto(head, levels, beds, leaves, level, x, y, x, y - 1) {
-        return false;
-    }
-    true
-}
-
-/// Whether that holds at each square from `west` to before `east` of a row.
-fn row_stays_dry(
-    head: Head,
-    levels: &[u8],
-    beds: &[u16],
-    leaves: &[Leaf],
-    level: u8,
-    west: usize,
-    east: usize,
-    y: usize,
-) -> bool
-    requires valid { ValidBasin (basin_of head levels.now beds.now leaves.now) }
-    requires deep { level ≤ head.levels }
-    requires east { east ≤ side_by (heading head) }
-    requires north { y < side_by (heading head) }
-    ensures { Decides result (DryRow (view (basin_of head levels.now beds.now leaves.now)) level west east y) }
-{
-    for x in west..east {
-        if !stays_dry_at(head, levels, beds, leaves, level, x, y) {
-            return false;
-        }
-    }
-    true
+    keeps_off(survey, level, square, square.east())
+        && keeps_off(survey, level, square, square.north())
+        && keeps_off(survey, level, square, square.west())
+        && keeps_off(survey, level, square, square.south())
 }
 
 /// Whether no square across an edge would flow onto leaves of `level` in a window.
-pub fn stays_dry(
-    head: Head,
-    levels: &[u8],
-    beds: &[u16],
-    leaves: &[Leaf],
-    level: u8,
-    window: Window,
-) -> bool
-    requires valid { ValidBasin (basin_of head levels.now beds.now leaves.now) }
-    requires deep { level ≤ head.levels }
-    requires east { window.east ≤ side_by (heading head) }
-    requires north { window.north ≤ side_by (heading head) }
-    ensures { Decides result (DryWindow (view (basin_of head levels.now beds.now leaves.now)) level window) }
+pub fn stays_dry(survey: &Survey<'_>, level: u8, window: Window) -> bool
+    requires deep { level ≤ survey.now.head.levels }
+    requires east { window.east ≤ side (heading survey.now.head) }
+    requires north { window.north ≤ side (heading survey.now.head) }
+    ensures { Decides result (DryWindow (view (surveyed survey.now)) level window) }
 {
-    for y in window.south..window.north {
-        if !row_stays_dry(
-            head,
-            levels,
-            beds,
-            leaves,
-            level,
-            window.west,
-            window.east,
-            y,
-        ) {
-            return false;
-        }
-    }
-    true
+    window.passes(|x, y| match survey.head.square(x, y) {
+        Some(square) => stays_dry_at(survey, level, square),
+        None => true,
+    })
 }

@@ -5,13 +5,14 @@ ghost use Rattle.calls.specs.Replies.{replied};
 ghost use Rattle.runs.specs.Calls.{perform, merge as a_merge};
 
 use crate::flood::stays_dry;
-use crate::join::{join, parent_of};
+use crate::join::join;
 use crate::siblings::{joined, mixed, siblings};
-use crate::window::{all_between, block_window, ring_window};
+use crate::window::all_between;
 use basin::head::Head;
 use basin::leaf::Leaf;
 use basin::refusal::Refusal;
-use calls::spot::locate;
+use calls::spot::Spot;
+use tables::survey::Survey;
 
 /// Joins the leaf at a square with its three siblings, and answers the new leaf's surface number.
 pub fn merge(
@@ -24,24 +25,26 @@ pub fn merge(
 ) -> Result<u64, Refusal>
     ensures { (replied result, basin_of head levels.new beds.now leaves.new) ≡ perform (a_merge x y) (basin_of head levels.old beds.now leaves.old) }
 {
-    let spot = locate(head, levels, beds, leaves, x, y)?;
+    let survey = Survey::new(head, levels, beds, leaves)?;
+    let spot = Spot::at(&survey, x, y)?;
     if spot.level == 0 {
         return Err(Refusal::NotDivisible);
     }
-    let parent = parent_of(spot);
-    let block = block_window(parent);
-    if !all_between(levels, spot.n, block, spot.level, spot.level) {
+    let above = spot.level - 1;
+    let parent = survey.block(above, spot.square);
+    let block = parent.window();
+    if !all_between(&survey, block, spot.level, spot.level) {
         return Err(Refusal::NotDivisible);
     }
-    if !all_between(levels, spot.n, ring_window(spot.n, block), 0, spot.level) {
+    if !all_between(&survey, block.ring(parent.n), 0, spot.level) {
         return Err(Refusal::Unbalanced);
     }
-    let family = siblings(leaves, spot.n, spot.side, x, y);
+    let family = siblings(leaves, spot);
     if mixed(family) {
         return Err(Refusal::WetDry);
     }
-    if family.own.water == 0 && !stays_dry(head, levels, beds, leaves, parent.level, block) {
+    if family.own.water == 0 && !stays_dry(&survey, above, block) {
         return Err(Refusal::WetDry);
     }
-    Ok(join(levels, beds, leaves, parent, joined(family)))
+    Ok(join(levels, beds, leaves, parent, above, joined(family)))
 }

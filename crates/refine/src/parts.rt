@@ -1,28 +1,11 @@
-// What a split makes of a leaf.
+// What a split makes of a leaf, and what a merge makes one of.
 use basin::leaf::Leaf;
+use basin::quarters::Quarters;
 
-/// The records of the four children of a leaf.
-#[derive(Clone, Copy)]
-pub struct Children {
-    pub sw: Leaf,
-    pub se: Leaf,
-    pub nw: Leaf,
-    pub ne: Leaf,
-}
-
-/// The water that each child of a wet leaf would get.
-#[derive(Clone, Copy)]
-pub struct Shares {
-    pub sw: u64,
-    pub se: u64,
-    pub nw: u64,
-    pub ne: u64,
-}
-
-/// A leaf divided: its children, and the water that is left over.
+/// A leaf divided: the records of its four children, and the water that is left over.
 #[derive(Clone, Copy)]
 pub struct Division {
-    pub children: Children,
+    pub children: Quarters<Leaf>,
     pub remainder: u32,
 }
 

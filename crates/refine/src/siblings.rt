@@ -6,6 +6,8 @@ ghost use Rattle.refine.specs.Siblings.{Slow, siblings_at, unlike as unlike_of, 
 use crate::parts::Siblings;
 use basin::leaf::Leaf;
 use basin::size::place;
+use basin::square::Square;
+use calls::spot::Spot;
 
 /// The place beside `x` in the other half of a block of twice the side.
 fn twin(side: usize, x: usize) -> usize
@@ -35,20 +37,16 @@ pub fn both(a: Leaf, b: Leaf) -> Leaf
     }
 }
 
-/// The records of the leaf of this side at a square and of its siblings, in a basin of `n` by `n` squares.
-pub fn siblings(leaves: &[Leaf], n: usize, side: usize, x: usize, y: usize) -> Siblings
-    requires few { n ≤ 64 }
-    requires some { 1 ≤ side }
-    requires small { side ≤ 64 }
-    requires full { length leaves.now ≡ n * n }
-    requires east { x < n }
-    requires north { y < n }
-    requires twin_east { twin_of side x < n }
-    requires twin_north { twin_of side y < n }
-    ensures { result ≡ siblings_at n side leaves.now x y }
+/// The records of the leaf at a spot and of its siblings.
+pub fn siblings(leaves: &[Leaf], spot: Spot) -> Siblings
+    requires full { length leaves.now ≡ spot.square.n * spot.square.n }
+    requires twin_east { twin_of spot.plot.side spot.square.x < spot.square.n }
+    requires twin_north { twin_of spot.plot.side spot.square.y < spot.square.n }
+    ensures { result ≡ siblings_at spot.square.n spot.plot.side leaves.now spot.square.x spot.square.y }
 {
-    let p = twin(side, x);
-    let q = twin(side, y);
+    let Square { x, y, n } = spot.square;
+    let p = twin(spot.plot.side, x);
+    let q = twin(spot.plot.side, y);
     Siblings {
         own: leaves[place(n, x, y)],
         beside: leaves[place(n, p, y)],

@@ -6,11 +6,12 @@ ghost use Rattle.runs.specs.Calls.{perform, split as a_split};
 
 use crate::divide::{cut, divide};
 use crate::flood::stays_dry;
-use crate::window::{all_between, block_window, ring_window};
+use crate::window::all_between;
 use basin::head::Head;
 use basin::leaf::Leaf;
 use basin::refusal::Refusal;
-use calls::spot::locate;
+use calls::spot::Spot;
+use tables::survey::Survey;
 
 /// Cuts the leaf at a square into four, and answers the water that is left over, which joins the loose account.
 pub fn split(
@@ -23,20 +24,19 @@ pub fn split(
 ) -> Result<u32, Refusal>
     ensures { (replied result, basin_of head.new levels.new beds.now leaves.new) ≡ perform (a_split x y) (basin_of head.old levels.old beds.now leaves.old) }
 {
-    let spot = locate(*head, levels, beds, leaves, x, y)?;
+    let survey = Survey::new(*head, levels, beds, leaves)?;
+    let spot = Spot::at(&survey, x, y)?;
     if spot.level >= head.levels {
         return Err(Refusal::NotDivisible);
     }
-    let block = block_window(spot);
-    let ring = ring_window(spot.n, block);
-    if !all_between(levels, spot.n, ring, spot.level, head.levels) {
+    let block = spot.plot.window();
+    if !all_between(&survey, block.ring(spot.plot.n), spot.level, head.levels) {
         return Err(Refusal::Unbalanced);
     }
-    let leaf = leaves[spot.here];
-    if leaf.water == 0 && !stays_dry(*head, levels, beds, leaves, spot.level + 1, block) {
+    if spot.leaf.water == 0 && !stays_dry(&survey, spot.level + 1, block) {
         return Err(Refusal::WetDry);
     }
-    let division = divide(spot, beds, leaf, head.loose)?;
+    let division = divide(spot.plot, beds, spot.leaf, head.loose)?;
     cut(levels, leaves, spot, division.children);
     head.loose += division.remainder;
     Ok(division.remainder)
