@@ -1,6 +1,6 @@
 // The calls of a log.
-use crate::hex::decode;
-use crate::session::Stop;
+use crate::stop::Stop;
+use hex::decode;
 use kaftanore::{Call, Rules};
 use std::alloc::Global;
 
@@ -28,35 +28,20 @@ pub enum Line {
 
 /// The number that a word of digits stands for.
 fn number(word: &str) -> Result<u64, Stop> {
-    for byte in word.bytes() {
-        if !byte.is_ascii_digit() {
-            return Err(Stop::NotANumber);
-        }
+    if word.starts_with('+') {
+        return Err(Stop::NotANumber);
     }
-    match word.parse::<u64>() {
-        Ok(value) => Ok(value),
-        Err(_) => Err(Stop::NotANumber),
-    }
+    word.parse().map_err(|_| Stop::NotANumber)
 }
 
 /// A number in 32 bits; a larger one becomes the largest, which is out of every range too.
 fn narrow(word: &str) -> Result<u32, Stop> {
-    let value = number(word)?;
-    Ok(u32::try_from(value).unwrap_or(u32::MAX))
+    Ok(u32::try_from(number(word)?).unwrap_or(u32::MAX))
 }
 
+/// A number that says where a square lies.
 fn place(word: &str) -> Result<usize, Stop> {
-    let value = number(word)?;
-    Ok(value as usize)
-}
-
-/// The flow rule of this name.
-fn rule(name: &str) -> Result<Rules, Stop> {
-    match name {
-        "central" => Ok(Rules::Central),
-        "pond" => Ok(Rules::Pond),
-        _ => Err(Stop::NotARule),
-    }
+    Ok(number(word)? as usize)
 }
 
 /// The call of a list that some words stand for. A step takes the whole work table.
@@ -78,7 +63,7 @@ fn listed(words: &[&str]) -> Result<Call<Rules>, Stop> {
         }),
         ["step", time, name] => Ok(Call::Step {
             time: narrow(time)?,
-            rule: rule(name)?,
+            rule: name.parse()?,
             entries: usize::MAX,
         }),
         ["split", x, y] => Ok(Call::Split {
@@ -107,7 +92,7 @@ fn alone(heap: Global, words: &[&str]) -> Result<Option<Command>, Stop> {
         },
         ["close"] => Command::Close,
         ["read"] => Command::Read(Vec::new(heap)),
-        ["read", hex] => Command::Read(decode(heap, hex)?),
+        ["read", hex] => Command::Read(decode(heap, *hex)?),
         ["load", path] => Command::Load(String::from_str(heap, path)?),
         ["write"] => Command::Write,
         ["save", path] => Command::Save(String::from_str(heap, path)?),
