@@ -16,6 +16,7 @@ blank lines and lines that begin with # are passed over";
 fn print_answer(rt: &HostRuntime, line: Result<String, io::Error>) -> Result<(), Stop> {
     let line = line?;
     let line = line.as_str();
+    // asked here as `replay` asks it: a crate for the two programs would be longer than the test
     if line.is_empty() || line.starts_with('#') {
         return Ok(());
     }

@@ -3,6 +3,8 @@ use crate::stop::Stop;
 use hex::decode;
 use kaftanore::{Call, Rules};
 use std::alloc::Global;
+use std::num::ParseIntError;
+use std::str::FromStr;
 
 /// A call as a line of the log gives it.
 #[derive(Drop)]
@@ -26,8 +28,8 @@ pub enum Line {
     Alone(Command),
 }
 
-/// The number that a word of digits stands for.
-fn number(word: &str) -> Result<u64, Stop> {
+/// The number, of a type without sign, that a word of digits stands for.
+fn number<N: FromStr<Err = ParseIntError>>(word: &str) -> Result<N, Stop> {
     if word.starts_with('+') {
         return Err(Stop::NotANumber);
     }
@@ -36,30 +38,25 @@ fn number(word: &str) -> Result<u64, Stop> {
 
 /// A number in 32 bits; a larger one becomes the largest, which is out of every range too.
 fn narrow(word: &str) -> Result<u32, Stop> {
-    Ok(u32::try_from(number(word)?).unwrap_or(u32::MAX))
-}
-
-/// A number that says where a square lies.
-fn place(word: &str) -> Result<usize, Stop> {
-    Ok(number(word)? as usize)
+    Ok(u32::try_from(number::<u64>(word)?).unwrap_or(u32::MAX))
 }
 
 /// The call of a list that some words stand for. A step takes the whole work table.
 fn listed(words: &[&str]) -> Result<Call<Rules>, Stop> {
     match words {
         ["pour", x, y, amount] => Ok(Call::Pour {
-            x: place(x)?,
-            y: place(y)?,
+            x: number(x)?,
+            y: number(y)?,
             amount: narrow(amount)?,
         }),
         ["draw", x, y, amount] => Ok(Call::Draw {
-            x: place(x)?,
-            y: place(y)?,
+            x: number(x)?,
+            y: number(y)?,
             amount: narrow(amount)?,
         }),
         ["settle", x, y] => Ok(Call::Settle {
-            x: place(x)?,
-            y: place(y)?,
+            x: number(x)?,
+            y: number(y)?,
         }),
         ["step", time, name] => Ok(Call::Step {
             time: narrow(time)?,
@@ -67,12 +64,12 @@ fn listed(words: &[&str]) -> Result<Call<Rules>, Stop> {
             entries: usize::MAX,
         }),
         ["split", x, y] => Ok(Call::Split {
-            x: place(x)?,
-            y: place(y)?,
+            x: number(x)?,
+            y: number(y)?,
         }),
         ["merge", x, y] => Ok(Call::Merge {
-            x: place(x)?,
-            y: place(y)?,
+            x: number(x)?,
+            y: number(y)?,
         }),
         _ => Err(Stop::NotACall),
     }
@@ -86,8 +83,8 @@ fn alone(heap: Global, words: &[&str]) -> Result<Option<Command>, Stop> {
             width: narrow(width)?,
         },
         ["lay", x, y, bed] => Command::Lay {
-            x: place(x)?,
-            y: place(y)?,
+            x: number(x)?,
+            y: number(y)?,
             bed: narrow(bed)?,
         },
         ["close"] => Command::Close,
@@ -97,8 +94,8 @@ fn alone(heap: Global, words: &[&str]) -> Result<Option<Command>, Stop> {
         ["write"] => Command::Write,
         ["save", path] => Command::Save(String::from_str(heap, path)?),
         ["look", x, y] => Command::Look {
-            x: place(x)?,
-            y: place(y)?,
+            x: number(x)?,
+            y: number(y)?,
         },
         ["total"] => Command::Total,
         ["turn", number] => Command::Turn(narrow(number)?),

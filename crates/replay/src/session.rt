@@ -13,7 +13,7 @@ use std::mem::replace;
 /// The most bytes that are written: more than the file of any basin has.
 const MOST_BYTES: usize = 72_000;
 
-/// The three tables of a basin.
+/// The three tables of a basin. They are three and not one of squares, since the library's calls are lent each as a slice of its own.
 #[derive(Drop)]
 struct Tables {
     levels: Vec<u8>,
@@ -71,6 +71,7 @@ impl Session {
     /// Performs a call, and says what it answered.
     pub fn perform(&mut self, rt: &HostRuntime, command: Command) -> Result<Answer, Stop> {
         let heap = rt.alloc();
+        // a match and not a closure in each command: the closures would have to be boxed, and say no more
         match command {
             Command::Open { levels, width } => self.open(heap, levels, width),
             Command::Lay { x, y, bed } => self.lay(x, y, bed),
