@@ -25,7 +25,8 @@ pub enum Stop {
     Output(#[from] io::Error),
 }
 
-/// The number that a word stands for: decimal digits, and `-` before them where it is negative.
+/// The number that a word stands for: decimal digits, and `-` before them where it is negative. `replay` reads its numbers so too, for errors of
+/// its own; a crate for the two programs would be longer than the function.
 fn number(word: &str) -> Result<i64, Stop> {
     if word.starts_with('+') {
         return Err(Stop::NotANumber);

@@ -1,7 +1,7 @@
 // Files that are read or refused.
 use crate::*;
 
-// Whether a file is refused with these three numbers, and the tables are as they were.
+// Whether a file is refused with these three numbers, and the tables are as they were. Numbers and not variants: what programs print is tested.
 fn is_refused(bytes: &[u8], number: u8, byte: usize, layer: u8) -> bool {
     let mut levels = [9];
     let mut beds = [9];

@@ -3,7 +3,7 @@ ghost use Rattle.std.specs.Prelude.{◌≤◌};
 
 use crate::*;
 
-// A basin of two by two squares.
+// A basin of two by two squares, with its tables apart, since each call is lent them so.
 #[derive(Clone, Copy, PartialEq)]
 struct Pool {
     head: Head,
