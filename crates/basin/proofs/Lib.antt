@@ -7,3 +7,4 @@ pub mod Telling
 pub mod Flat
 pub mod Fills
 pub mod Windows
+pub mod Around

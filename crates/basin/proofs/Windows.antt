@@ -1,5 +1,5 @@
 -- What a window's test of its squares decides.
-use Rattle.std.proofs.Common.{◌≡◌, ℕ, ◌<◌, ◌≤◌, Bool, true, false, MatchBool, Decides, refl, ap, arith}
+use Rattle.std.proofs.Common.{◌≡◌, ℕ, ◌<◌, Bool, true, false, MatchBool, Decides, refl, ap, arith}
 use Rattle.basin.specs.declared.window.Window.{Window}
 use Rattle.basin.specs.Windows.{Seen, whole_of}
 use Rattle.basin.proofs.Tests.{differ}

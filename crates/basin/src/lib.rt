@@ -11,6 +11,7 @@ pub mod plot;
 pub mod plots;
 pub mod quarters;
 pub mod refusal;
+pub mod sides;
 pub mod size;
 pub mod square;
 pub mod squares;

@@ -1,9 +1,10 @@
 // Places and neighbours of squares.
-ghost use Rattle.std.specs.Prelude.{◌≡◌, ◌+◌, ◌-◌, ◌*◌, ◌/◌, ◌<◌, ◌≤◌, MatchOption};
-ghost use Rattle.basin.specs.Places.{IsAt};
+ghost use Rattle.std.specs.Prelude.{◌≡◌, ◌+◌, ◌*◌, ◌/◌, ◌<◌};
+ghost use Rattle.basin.specs.Places.{EastOf, NorthOf, WestOf, SouthOf};
 ghost use Rattle.basin.specs.Plots.{Covered, Spans};
 
 use crate::plot::Plot;
+use crate::sides::Sides;
 use crate::size::place;
 use crate::square::Square;
 
@@ -31,7 +32,7 @@ impl Square {
 
     /// The next square eastward, if there is one.
     pub fn east(self) -> Option<Square>
-        ensures { MatchOption result (self.n ≤ self.x + 1) (IsAt (self.x + 1) self.y self.n) }
+        ensures { EastOf self.x self.y self.n result }
     {
         let Square { x, y, n } = self;
         if x + 1 < n {
@@ -43,7 +44,7 @@ impl Square {
 
     /// The next square northward, if there is one.
     pub fn north(self) -> Option<Square>
-        ensures { MatchOption result (self.n ≤ self.y + 1) (IsAt self.x (self.y + 1) self.n) }
+        ensures { NorthOf self.x self.y self.n result }
     {
         let Square { x, y, n } = self;
         if y + 1 < n {
@@ -55,7 +56,7 @@ impl Square {
 
     /// The next square westward, if there is one.
     pub fn west(self) -> Option<Square>
-        ensures { MatchOption result (self.x ≡ 0) (IsAt (self.x - 1) self.y self.n) }
+        ensures { WestOf self.x self.y self.n result }
     {
         let Square { x, y, n } = self;
         if x > 0 {
@@ -67,13 +68,28 @@ impl Square {
 
     /// The next square southward, if there is one.
     pub fn south(self) -> Option<Square>
-        ensures { MatchOption result (self.y ≡ 0) (IsAt self.x (self.y - 1) self.n) }
+        ensures { SouthOf self.x self.y self.n result }
     {
         let Square { x, y, n } = self;
         if y > 0 {
             Some(Square { x, y: y - 1, n })
         } else {
             None
+        }
+    }
+
+    /// The squares across each edge, where there are such.
+    pub fn beside(self) -> Sides<Option<Square>>
+        ensures east { EastOf self.x self.y self.n result.east }
+        ensures north { NorthOf self.x self.y self.n result.north }
+        ensures west { WestOf self.x self.y self.n result.west }
+        ensures south { SouthOf self.x self.y self.n result.south }
+    {
+        Sides {
+            east: self.east(),
+            north: self.north(),
+            west: self.west(),
+            south: self.south(),
         }
     }
 }

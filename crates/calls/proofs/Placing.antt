@@ -1,5 +1,5 @@
 -- The refusals that every call at a square may meet, and the spot of a square that meets none.
-use Rattle.std.proofs.Common.{◌≡◌, ℕ, ◌<◌, Ok, Err, sym, refl, ◌∙◌, arith}
+use Rattle.std.proofs.Common.{◌≡◌, ℕ, ◌<◌, Ok, Err, sym, refl, ◌∙◌, subst, arith}
 use Rattle.std.proofs.lemmas.Bool.Decides.{nat_tests}
 use Rattle.basin.specs.declared.leaf.Leaf.{Leaf}
 use Rattle.basin.specs.declared.plot.Plot.{Plot}
@@ -44,6 +44,8 @@ located b x y q k l p valid at ek el ep =
     record {
       passed = placing_passed b x y valid (across _ x y q at) (up _ x y q at);
       valid = valid;
+      east = across _ x y q at;
+      north = up _ x y q at;
       square = at;
       level_is = ek ∙ (λ i. (view b).level (at.x_is i) (at.y_is i));
       leaf_is = el ∙ (λ i. (view b).leaf (at.x_is i) (at.y_is i));
@@ -53,6 +55,12 @@ located b x y q k l p valid at ek el ep =
 -- its plot is the block of its leaf
 pub located_covers : (b : Basin) (x y : ℕ) (s : Spot) → Located b x y s → Covers b ((view b).level x y) x y s.plot
 located_covers b x y s l =
-    let a = across _ x y s.square l.square in
-    let c = up _ x y s.square l.square in
-    record { deep = l.valid.squares.quadtree.shallow x y a c; east = a; north = c; block = l.block }
+    record { deep = l.valid.squares.quadtree.shallow x y l.east l.north; east = l.east; north = l.north; block = l.block }
+
+-- a survey's spot is one of the basin that the survey shows
+pub located_in : (a b : Basin) (x y : ℕ) (s : Spot) → a ≡ b → Located a x y s → Located b x y s
+located_in a b x y s e l = subst (λ c. Located c x y s) e l
+
+-- and a square that its survey refuses is refused
+pub placed_in : (a b : Basin) (x y : ℕ) (e : Refusal) → a ≡ b → placing a x y ≡ Err e → placing b x y ≡ Err e
+placed_in a b x y e same h = subst (λ c. placing c x y ≡ Err e) same h

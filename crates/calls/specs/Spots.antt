@@ -22,6 +22,8 @@ placing b x y = after (validity b) (cond (off (view b) x y) (Err OffGrid) (Ok tt
 pub record Located (b : Basin) (x y : ℕ) (s : Spot) : Type 0 where
   pub passed : placing b x y ≡ Ok tt
   pub valid : ValidBasin b
+  pub east : x < side b.head
+  pub north : y < side b.head
   pub square : IsAt x y (side b.head) s.square
   pub level_is : s.level ≡ (view b).level x y
   pub leaf_is : s.leaf ≡ (view b).leaf x y

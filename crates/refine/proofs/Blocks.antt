@@ -5,15 +5,15 @@ use Rattle.std.proofs.lemmas.Bool.{cases_Bool, and_left, and_right, or_from, leb
 use Rattle.std.proofs.lemmas.Bool.Decides.{not_from_Decides}
 use Rattle.basin.specs.Squares.{same_block, touch, edge, around, some_square, some_pair}
 use Rattle.basin.specs.Views.{View, size, side_of}
+use Rattle.basin.specs.Windows.{Seen}
 use Rattle.basin.proofs.Found.{none, is_none, none_pair, is_none_pair}
-use Rattle.basin.proofs.Sizes.{side_pos}
+use Rattle.basin.proofs.Sizes.{side_pos, block_in}
 use Rattle.basin.proofs.Tests.{and_true, true_and, or_false, not_and, not_true, le_leb, from_same_block, to_same_block}
-use Rattle.looks.proofs.Beds.{block_in}
 use Rattle.runs.specs.Calls.{beside_coarser, beside_finer, no_siblings, would_flood}
 use Rattle.runs.proofs.Reach.{by_block, reach, edges_around}
-use Rattle.refine.specs.declared.window.Window.{Window}
+use Rattle.basin.specs.declared.window.Window.{Window}
 use Rattle.refine.specs.Floods.{flows_onto, DrySquare, DryWindow}
-use Rattle.refine.specs.Windows.{Seen, BlockWindow, RingWindow}
+use Rattle.refine.specs.Windows.{BlockWindow, RingWindow}
 
 -- a test that is false exactly where a decided fact holds
 pub told : {P : Type 0} (t r : Bool) → Decides r P → (t ≡ false → P) → (P → t ≡ false) → t ≡ not r

@@ -1,37 +1,34 @@
 -- The ways to divide a leaf.
-use Rattle.std.proofs.Common.{◌≡◌, ℕ, ◌+◌, ◌-◌, ◌*◌, ◌/◌, ◌<◌, ◌≤◌, Bool, true, false, cond, not, ltb, List, Ok, Err, Result, sym, ap, ◌∙◌, mul-le-mul_right, add-mul, mul-le-mul, arith}
+use Rattle.std.proofs.Common.{◌≡◌, ℕ, ◌+◌, ◌-◌, ◌*◌, ◌/◌, ◌<◌, ◌≤◌, Bool, true, false, cond, not, ltb, List, Ok, Err, Result, sym, ap, ◌∙◌, mul-le-mul, arith}
 use Rattle.std.proofs.lemmas.Bool.{leb-true, lt-ltb, le-ltb}
 use Rattle.basin.specs.declared.leaf.Leaf.{Leaf}
+use Rattle.basin.specs.declared.plot.Plot.{Plot}
+use Rattle.basin.specs.declared.quarters.Quarters.{Quarters}
 use Rattle.basin.specs.declared.refusal.Refusal.{Refusal}
 use Rattle.basin.specs.declared.refusal.Refusal.TheVariants.{WetDry, LeafFull, LooseFull}
+use Rattle.basin.specs.Plots.{Spans, ground}
 use Rattle.basin.specs.Records.{dry, may_hold}
+use Rattle.basin.specs.Sums.{grid}
+use Rattle.basin.specs.Tables.{entry}
 use Rattle.basin.proofs.Tests.{or_false, not_true}
-use Rattle.calls.specs.declared.spot.Spot.{Spot}
-use Rattle.calls.specs.Spots.{SpotFits, ground_at}
-use Rattle.refine.specs.declared.parts.Children.{Children}
 use Rattle.refine.specs.declared.parts.Division.{Division}
-use Rattle.refine.specs.declared.parts.Shares.{Shares}
 use Rattle.refine.specs.Divisions.{child_area, filled, children_of, wet_division, division_of}
-use Rattle.refine.specs.Shares.{shares, some_bare, some_full}
-
--- a block of w by w squares at (x, y) lies in the table
-pub block_fits : (n len x y w : ℕ) → x + w ≤ n → y + w ≤ n → len ≡ n * n → y * n + x + w * n + w ≤ len + n
-block_fits n len x y w a b e = omega (arith, mul-le-mul_right n b, add-mul y w n)
+use Rattle.refine.specs.Shares.{share, shares, some_bare, some_full, SmallShares}
 
 -- a child has at most 4,096 squares
-pub child_small : (s : Spot) (beds leaves : ℕ) → SpotFits s beds leaves → child_area s ≤ 4096
-child_small s beds leaves f =
-    let half : s.side / 2 ≤ 64 = omega (arith, f.eastward, f.few) in
+pub child_small : (p : Plot) → child_area p ≤ 4096
+child_small p =
+    let half : p.side / 2 ≤ 64 = omega (arith, p.inside) in
     mul-le-mul half half
 
--- shares that all fit are small
-pub record SmallShares (s : Shares) : Type 0 where
-  pub sw : s.sw ≤ 122880000
-  pub se : s.se ≤ 122880000
-  pub nw : s.nw ≤ 122880000
-  pub ne : s.ne ≤ 122880000
+-- a child's water, from the block that it is
+pub share_is : (p q : Plot) (beds : List ℕ) (quarter r west south : ℕ) → Spans p.n west south (p.side / 2) q → r ≡ quarter - ground q beds
+    → r ≡ share p beds quarter west south
+share_is p q beds quarter r west south at e =
+    e ∙ (λ i. quarter - grid (at.side_is i) (λ a b. entry (at.n_is i) 0 beds (at.west_is i + a) (at.south_is i + b)))
 
-pub small_shares : (area : ℕ) (s : Shares) → area ≤ 4096 → some_full area s ≡ false → SmallShares s
+-- shares that all fit are small
+pub small_shares : (area : ℕ) (s : Quarters ℕ) → area ≤ 4096 → some_full area s ≡ false → SmallShares s
 small_shares area s h e =
     let p = or_false (not (may_hold area s.sw)) _ e in
     let q = or_false (not (may_hold area s.se)) _ p.1 in
@@ -42,9 +39,9 @@ small_shares area s h e =
     small water f = omega (arith, leb-true water (30000 * area) (not_true _ f))
 
 -- a wet leaf, from the sum g of its beds and the shares of its children
-module _ (s : Spot) (beds : List ℕ) (l : Leaf) (loose g : ℕ) (sh : Shares) (ground : g ≡ ground_at s beds)
+module _ (s : Plot) (beds : List ℕ) (l : Leaf) (loose g : ℕ) (sh : Quarters ℕ) (ground : g ≡ ground s beds)
     (shared : sh ≡ shares s beds ((l.water + g) / 4)) where
-  abbrev way : Bool → Bool → Bool → ℕ → Shares → Result Division Refusal
+  abbrev way : Bool → Bool → Bool → ℕ → Quarters ℕ → Result Division Refusal
   way bare full over fill sh =
       cond bare (Err WetDry) (cond full (Err LeafFull) (cond over (Err LooseFull)
       (Ok (record { children = children_of (child_area s) sh l; remainder = fill - 4 * (fill / 4) }))))
@@ -73,14 +70,14 @@ module _ (s : Spot) (beds : List ℕ) (l : Leaf) (loose g : ℕ) (sh : Shares) (
       pub wet_over : 1000000 < loose + (l.water + g - 4 * ((l.water + g) / 4)) → Err LooseFull ≡ wet_division s beds l loose
       wet_over h = let o = lt-ltb _ _ h in sym (wet_is ∙ λ i. way (e i) (f i) (o i) (l.water + g) sh)
 
-      pub wet_divided : loose + (l.water + g - 4 * ((l.water + g) / 4)) ≤ 1000000 → (c : Children) → c ≡ children_of (child_area s) sh l
+      pub wet_divided : loose + (l.water + g - 4 * ((l.water + g) / 4)) ≤ 1000000 → (c : Quarters Leaf) → c ≡ children_of (child_area s) sh l
           → Ok (record { children = c; remainder = l.water + g - 4 * ((l.water + g) / 4) }) ≡ wet_division s beds l loose
       wet_divided h c is =
           let o = le-ltb _ _ h in
           ap (λ c. Ok (record { children = c; remainder = l.water + g - 4 * ((l.water + g) / 4) })) is
           ∙ sym (wet_is ∙ λ i. way (e i) (f i) (o i) (l.water + g) sh)
 
-module _ (s : Spot) (beds : List ℕ) (l : Leaf) (loose : ℕ) where
+module _ (s : Plot) (beds : List ℕ) (l : Leaf) (loose : ℕ) where
   -- a wet leaf, and a dry one
   pub division_wet : ltb 0 l.water ≡ true → division_of s beds l loose ≡ wet_division s beds l loose
   unfolding division_of

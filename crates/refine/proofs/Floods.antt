@@ -1,13 +1,28 @@
--- Bed numbers, and water that stands above the ground beside it.
-use Rattle.std.proofs.Common.{◌≡◌, ℕ, ◌+◌, ◌-◌, ◌*◌, ◌/◌, ◌^◌, ap, ◌∙◌}
-use Rattle.basin.specs.Basins.{Basin, side, view}
+-- Water that stands above the ground beside it.
+use Rattle.std.proofs.Common.{◌≡◌, ℕ, ◌*◌, ◌/◌, false, MatchOption, Option, None, Some, sym, ◌∙◌}
+use Rattle.basin.specs.declared.plot.Plot.{Plot}
+use Rattle.basin.specs.declared.square.Square.{Square}
+use Rattle.basin.specs.Basins.{Basin, view}
+use Rattle.basin.specs.Places.{IsAt}
+use Rattle.basin.specs.Plots.{ground}
 use Rattle.basin.specs.Squares.{bed_number}
-use Rattle.basin.specs.Sums.{grid}
-use Rattle.basin.specs.Tables.{entry}
+use Rattle.basin.specs.Views.{View}
+use Rattle.looks.proofs.Beds.{ground_is}
+use Rattle.tables.specs.Surveys.{BlockAt}
+use Rattle.refine.specs.Floods.{flows_onto, KeepsOff}
 
--- the bed number from the side n of the basin, the side s of the block and the sum g of its beds
-pub bed_number_is : (b : Basin) (k x y n s g : ℕ) → n ≡ side b.head → s ≡ 2 ^ (b.head.L - k)
-    → g ≡ grid s (λ i j. entry n 0 b.tables.beds (x / s * s + i) (y / s * s + j)) → g / (s * s) ≡ bed_number (view b) k x y
-bed_number_is b k x y n s g en es eg =
-    ap (λ g. g / (s * s)) eg
-    ∙ (λ i. grid (es i) (λ p q. entry (en i) 0 b.tables.beds (x / es i * es i + p) (y / es i * es i + q)) / (es i * es i))
+-- the bed number from a block
+pub bed_number_is : (b : Basin) (k x y : ℕ) (p : Plot) → BlockAt b k x y p → ground p b.tables.beds / (p.side * p.side) ≡ bed_number (view b) k x y
+bed_number_is b k x y p at = λ i. ground_is b k x y p at i / (at.side_is i * at.side_is i)
+
+module _ (v : View) (j x y p q n : ℕ) (edge There : Type 0) where
+  -- that the square beside keeps off is as much as that the square (p, q) does, where there is one
+  pub kept_off : (from : Option Square) → MatchOption from edge (λ s. There × IsAt p q n s) → KeepsOff v j x y from → (edge → ⊥)
+      → flows_onto v j x y p q ≡ false
+  kept_off None at k inside = absurd (inside at)
+  kept_off (Some s) at k inside = (λ i. flows_onto v j x y (sym at.1.x_is i) (sym at.1.y_is i)) ∙ k
+
+  pub keeps_off : (from : Option Square) → MatchOption from edge (λ s. There × IsAt p q n s)
+      → (There → flows_onto v j x y p q ≡ false) → KeepsOff v j x y from
+  keeps_off None at d = tt
+  keeps_off (Some s) at d = (λ i. flows_onto v j x y (at.1.x_is i) (at.1.y_is i)) ∙ d at.0

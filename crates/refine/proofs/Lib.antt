@@ -1,4 +1,3 @@
-pub mod Windows
 pub mod Floods
 pub mod Blocks
 pub mod Divided

@@ -1,47 +1,44 @@
 -- What a merge replies and leaves, case by case.
-use Rattle.std.proofs.Common.{◌≡◌, ℕ, suc, pred, ◌+◌, ◌-◌, ◌*◌, ◌/◌, ◌^◌, ◌<◌, ◌≤◌, Bool, true, false, cond, not, ◌&&◌, ◌||◌, eqb, ltb, ◌⊎◌, List, length, Ok, Err, Decides, Result, sym, refl, ap, ◌∙◌, subst, inl, inr, mul-div_cancel, sub-one, arith}
-use native.Mathlib.Nat.{div-div-eq-div-mul}
+use Rattle.std.proofs.Common.{◌≡◌, ℕ, pred, ◌+◌, ◌-◌, ◌*◌, ◌/◌, ◌<◌, ◌≤◌, Bool, true, false, cond, not, ◌&&◌, ◌||◌, eqb, ltb, ◌⊎◌, List, Ok, Err, Decides, Result, sym, refl, ap, ◌∙◌, subst, inl, inr, sub-one, arith}
 use Rattle.std.proofs.lemmas.Bool.{cases_Bool, eq-eqb, ne_eqb, or_left, or_right, or_from, ltb-false}
 use Rattle.basin.specs.declared.leaf.Leaf.{Leaf}
 use Rattle.basin.specs.declared.refusal.Refusal.{Refusal}
 use Rattle.basin.specs.declared.refusal.Refusal.TheVariants.{NotDivisible, Unbalanced, WetDry}
+use Rattle.basin.specs.declared.plot.Plot.{Plot}
+use Rattle.basin.specs.declared.window.Window.{Window}
 use Rattle.basin.specs.Basins.{Basin, basin, tables, side, view}
 use Rattle.basin.specs.Finish.{finish}
 use Rattle.basin.specs.Fills.{square}
+use Rattle.basin.specs.Plots.{window_of, ground}
 use Rattle.basin.specs.Records.{dry}
 use Rattle.basin.specs.Squares.{area, wet, bed_sum, surface}
 use Rattle.basin.specs.Tables.{table}
 use Rattle.basin.specs.Views.{View, size, side_of}
-use Rattle.basin.proofs.Sizes.{side_pos, area_small}
+use Rattle.basin.specs.Windows.{ring_at}
+use Rattle.basin.proofs.Sizes.{area_small}
 use Rattle.basin.proofs.Tests.{to_same_block}
 use Rattle.runs.specs.Calls.{merge, granted, refused, perform, beside_finer, mixed, no_siblings, would_flood}
 use Rattle.runs.specs.Changes.{twin, four, merged, after_merge}
 use Rattle.runs.proofs.CallsKeep.{four_holds, sibling_holds, twin_x, twin_y, half_x, half_y}
 use Rattle.runs.proofs.Ranges.{Holds}
-use Rattle.runs.proofs.Sounds.{twice}
+use Rattle.looks.proofs.Beds.{ground_is}
+use Rattle.tables.specs.Surveys.{BlockAt}
 use Rattle.calls.specs.declared.spot.Spot.{Spot}
-use Rattle.calls.specs.Spots.{placing, Located, Covers, SpotFits, ground_at}
-use Rattle.calls.proofs.Placing.{covers_fits, located_here}
-use Rattle.calls.proofs.Refilled.{beds_are, filled_table, ground_is}
+use Rattle.calls.specs.Spots.{placing, Located, Covers}
+use Rattle.calls.proofs.Refilled.{beds_are, filled_table}
 use Rattle.calls.proofs.Verdicts.{refuses, strikes, grants}
 use Rattle.refine.specs.declared.parts.Siblings.{Siblings}
-use Rattle.refine.specs.declared.window.Window.{Window}
 use Rattle.refine.specs.Floods.{DryWindow}
-use Rattle.refine.specs.Joins.{parent, levels_joined, leaves_joined}
+use Rattle.refine.specs.Joins.{levels_joined, leaves_joined}
 use Rattle.refine.specs.Siblings.{Slow, siblings_at, some_mixed, joined}
-use Rattle.refine.specs.Windows.{Between, BlockWindow, RingWindow, window_at, ring_at}
+use Rattle.refine.specs.Windows.{Between, BlockWindow, RingWindow}
 use Rattle.refine.proofs.Blocks.{siblings_told, finer_told, flood_told}
 use Rattle.refine.proofs.Families.{mixed_is}
 use Rattle.refine.proofs.Spotted.{block_window_is, ring_window_is}
-use Rattle.refine.proofs.Windows.{WindowFits}
 
 -- ---- the refusals that every call may meet
 pub merge_refused : (b : Basin) (x y : ℕ) (e : Refusal) → placing b x y ≡ Err e → (refused e, b) ≡ perform (merge x y) b
 merge_refused b x y e h = refuses b x y (merge x y) (λ l v. refl) (λ n. refl) e h
-
--- the block above that of side s at x is that above the block's first place
-up_block : (s x : ℕ) → 0 < s → x / s * s / (s * 2) ≡ x / (s * 2)
-up_block s x z = sym (div-div-eq-div-mul (x / s * s) s 2) ∙ ap (λ n. n / 2) (mul-div_cancel (x / s) z) ∙ div-div-eq-div-mul x s 2
 
 module _ (b : Basin) (x y : ℕ) (s : Spot) (l : Located b x y s) where
   abbrev v : View
@@ -79,67 +76,32 @@ module _ (b : Basin) (x y : ℕ) (s : Spot) (l : Located b x y s) where
     deep : k ≤ b.head.L
     deep = l.valid.squares.quadtree.shallow x y l.east l.north
 
-    twice_side : side_of v (pred k) ≡ 2 * s.side
-    twice_side =
-        let z = above in
-        let up : suc (pred k) ≡ k = omega arith in
-        let t = twice b.head.L (pred k) (omega (arith, deep)) in
-        t ∙ ap (λ j. 2 ^ (b.head.L - j) * 2) up ∙ omega (arith, l.side_is)
+    -- the level above
+    up_level : s.level - 1 ≡ pred k
+    up_level = ap (λ n. n - 1) l.level_is ∙ sub-one k
 
-    -- the parent's squares are those of the block above
-    pub parent_covers : Covers b (pred k) x y (parent s)
-    parent_covers =
-        let z = side_pos (b.head.L - k) in
-        let wide : side_of v k * 2 ≡ side_of v (pred k) = omega (arith, twice_side, l.side_is) in
-        let place : (p q : ℕ) → q ≡ p / side_of v k * side_of v k → q / (2 * s.side) * (2 * s.side) ≡ p / side_of v (pred k) * side_of v (pred k) =
-        λ p q e. (λ i. e i / sym twice_side i * sym twice_side i)
-        ∙ ap (λ n. p / side_of v k * side_of v k / n * side_of v (pred k)) (sym wide)
-        ∙ ap (λ n. n * side_of v (pred k)) (up_block (side_of v k) p z ∙ ap (λ n. p / n) wide) in
-        record {
-          deep = omega (arith, deep);
-          east = l.east;
-          north = l.north;
-          n_is = l.n_is;
-          side_is = sym twice_side;
-          west_is = place x s.west l.west_is;
-          south_is = place y s.south l.south_is;
-        }
+    pub above_deep : s.level - 1 ≤ b.head.L
+    above_deep = omega (arith, up_level, deep)
 
-    module _ (p : Spot) (is : p ≡ parent s) (window : Window) (window-of : window ≡ window_at p) where
+    module _ (p : Plot) (is : BlockAt b (s.level - 1) s.square.x s.square.y p) (window : Window) (window-of : window ≡ window_of p) where
       covers : Covers b (pred k) x y p
-      covers = subst (Covers b (pred k) x y) (sym is) parent_covers
-
-      level_is : p.level ≡ pred k
-      level_is = ap (λ q. q.level) is ∙ ap (λ n. n - 1) l.level_is ∙ sub-one k
+      covers =
+          record {
+            deep = omega (arith, deep);
+            east = l.east;
+            north = l.north;
+            block = rw (sym up_level, sym l.square.x_is, sym l.square.y_is) is;
+          }
 
       block_window : BlockWindow v (pred k) x y window
-      block_window = subst (BlockWindow v (pred k) x y) (sym window-of) (block_window_is b (pred k) x y p covers)
-
-      -- the parent lies in the tables
-      pub parent_fits : SpotFits p (length b.tables.beds) (length b.tables.leaves)
-      parent_fits =
-          let here : p.here ≡ s.here = ap (λ q. q.here) is in
-          covers_fits b (pred k) x y p l.valid covers (rw here (located_here b x y s l))
-
-      pub same_n : p.n ≡ s.n
-      same_n = ap (λ q. q.n) is
-
-      pub parent_deep : p.level ≤ b.head.L
-      parent_deep = omega (arith, level_is, deep)
-
-      -- so does its window
-      pub window_fits : WindowFits s.n window
-      window_fits =
-          let f = parent_fits in
-          rw window-of (record { east = omega (arith, f.eastward, same_n); north = omega (arith, f.northward, same_n); west = omega arith })
+      block_window = subst (BlockWindow v (pred k) x y) (sym window-of) (block_window_is b (pred k) x y p covers.block)
 
       -- ---- siblings of another level
-      module _ (r : Bool) (even : Decides r (Between s.n b.tables.levels window s.level s.level)) where
+      module _ (r : Bool) (even : Decides r (Between v window s.level s.level)) where
         siblings_are : no_siblings v x y ≡ not r
         siblings_are =
             siblings_told v x y l.east l.north window r (omega (arith, deep)) block_window
-            (subst (λ k. Decides r (Between (side b.head) b.tables.levels window k k)) l.level_is
-            (subst (λ n. Decides r (Between n b.tables.levels window s.level s.level)) l.n_is even))
+            (subst (λ k. Decides r (Between v window k k)) l.level_is even)
 
         pub merge_unequal : r ≡ false → (refused NotDivisible, b) ≡ perform (merge x y) b
         merge_unequal e =
@@ -152,35 +114,34 @@ module _ (b : Basin) (x y : ℕ) (s : Spot) (l : Located b x y s) where
 
           -- the siblings lie in the basin
           pub record Twins : Type 0 where
-            pub east : twin s.side x < s.n
-            pub north : twin s.side y < s.n
+            pub east : twin s.plot.side s.square.x < s.square.n
+            pub north : twin s.plot.side s.square.y < s.square.n
 
           pub twins : Twins
           twins =
               record {
-                east = rw (l.side_is, l.n_is) (twin_x v l.valid.squares x y l.east l.north four_leaves);
-                north = rw (l.side_is, l.n_is) (twin_y v l.valid.squares x y l.east l.north four_leaves);
+                east = rw (l.block.side_is, l.square.x_is, l.square.n_is) (twin_x v l.valid.squares x y l.east l.north four_leaves);
+                north = rw (l.block.side_is, l.square.y_is, l.square.n_is) (twin_y v l.valid.squares x y l.east l.north four_leaves);
               }
 
           -- ---- a finer leaf beside
-          module _ (ring : Window) (ring_of : ring ≡ ring_at s.n window) (q : Bool)
-              (fine : Decides q (Between s.n b.tables.levels ring 0 s.level)) where
+          module _ (ring : Window) (ring_of : ring ≡ ring_at p.n window) (q : Bool)
+              (fine : Decides q (Between v ring 0 s.level)) where
             finer_is : t₆ ≡ not q
             finer_is =
                 finer_told v x y l.east l.north ring q (omega (arith, deep))
-                (subst (λ w. RingWindow v (pred k) x y w) (sym (ring_of ∙ (λ i. ring_at (sym same_n i) (window-of i)))) (ring_window_is b (pred k) x y p covers))
-                (subst (λ k. Decides q (Between (side b.head) b.tables.levels ring 0 k)) l.level_is
-                (subst (λ n. Decides q (Between n b.tables.levels ring 0 s.level)) l.n_is fine))
+                (subst (λ w. RingWindow v (pred k) x y w) (sym (ring_of ∙ ap (ring_at p.n) window-of)) (ring_window_is b (pred k) x y p covers.block))
+                (subst (λ k. Decides q (Between v ring 0 k)) l.level_is fine)
 
             pub merge_unbalanced : q ≡ false → (refused Unbalanced, b) ≡ perform (merge x y) b
             merge_unbalanced e = let u = finer_is ∙ ap not e in strike Unbalanced (λ i. by_tests (four_leaves i) (u i) t₇)
 
-            module _ (good : q ≡ true) (f : Siblings) (family : f ≡ siblings_at s.n s.side b.tables.leaves x y) where
+            module _ (good : q ≡ true) (f : Siblings) (family : f ≡ siblings_at s.square.n s.plot.side b.tables.leaves s.square.x s.square.y) where
               balanced : t₆ ≡ false
               balanced = finer_is ∙ ap not good
 
               family_is : f ≡ siblings_at (side b.head) (side_of v k) b.tables.leaves x y
-              family_is = family ∙ (λ i. siblings_at (l.n_is i) (l.side_is i) b.tables.leaves x y)
+              family_is = family ∙ (λ i. siblings_at (l.square.n_is i) (l.block.side_is i) b.tables.leaves (l.square.x_is i) (l.square.y_is i))
 
               wet_is : wet v x y ≡ ltb 0 f.own.water
               wet_is = sym (ap (λ g. ltb 0 g.own.water) family_is)
@@ -227,11 +188,11 @@ module _ (b : Basin) (x y : ℕ) (s : Spot) (l : Located b x y s) where
 
                 module _ (even-wet : m ≡ false) where
                   -- ---- water beside dry siblings
-                  module _ (g : Bool) (dry-told : Decides g (DryWindow v p.level window)) where
+                  module _ (g : Bool) (dry-told : Decides g (DryWindow v (s.level - 1) window)) where
                     flood_is : would_flood v (pred k) (pred k) x y ≡ not g
                     flood_is =
                         flood_told v (pred k) (pred k) x y window g (omega (arith, deep)) l.east l.north block_window
-                        (subst (λ j. Decides g (DryWindow v j window)) level_is dry-told)
+                        (subst (λ j. Decides g (DryWindow v j window)) up_level dry-told)
 
                     pub merge_flooded : f.own.water ≡ 0 → g ≡ false → (refused WetDry, b) ≡ perform (merge x y) b
                     merge_flooded z e =
@@ -241,7 +202,7 @@ module _ (b : Basin) (x y : ℕ) (s : Spot) (l : Located b x y s) where
                         strike WetDry (λ i. by_tests (four_leaves i) (balanced i) (u i || (not (w i) && c i)))
 
                   -- ---- the siblings are wet, or were seen to stay dry
-                  module _ (seen : (f.own.water ≡ 0 → ⊥) ⊎ ((g : Bool) × Decides g (DryWindow v p.level window) × (g ≡ true))) where
+                  module _ (seen : (f.own.water ≡ 0 → ⊥) ⊎ ((g : Bool) × Decides g (DryWindow v (s.level - 1) window) × (g ≡ true))) where
                     passes : t₇ ≡ false
                     passes =
                         let u = mixed_told ∙ even-wet in
@@ -259,27 +220,27 @@ module _ (b : Basin) (x y : ℕ) (s : Spot) (l : Located b x y s) where
                     leaves_are : (sum : Leaf) → sum ≡ joined f → leaves_joined p sum b.tables.leaves ≡ table (side b.head) (after_merge v x y).leaf
                     leaves_are sum e =
                         let to-four = e ∙ sum_is in
-                        let side-to = covers.side_is in
+                        let side-to = covers.block.side_is in
                         ap (λ n. square p.side p.n p.side (p.south * p.n + p.west) n b.tables.leaves)
                         (λ i. finish (side-to i * side-to i) (to-four i).water (to-four i).east (to-four i).north)
                         ∙ filled_table b (pred k) x y p covers (merged v x y) dry b.tables.leaves l.valid.full.leaves
 
-                    levels_are : levels_joined p b.tables.levels ≡ table (side b.head) (after_merge v x y).level
+                    levels_are : levels_joined p (s.level - 1) b.tables.levels ≡ table (side b.head) (after_merge v x y).level
                     levels_are =
-                        ap (λ j. square p.side p.n p.side (p.south * p.n + p.west) j b.tables.levels) level_is
+                        ap (λ j. square p.side p.n p.side (p.south * p.n + p.west) j b.tables.levels) up_level
                         ∙ filled_table b (pred k) x y p covers (pred k) 0 b.tables.levels l.valid.full.levels
 
                     surface_is : (sum : Leaf) → sum ≡ joined f
-                        → (sum.water + ground_at p b.tables.beds) / (p.side * p.side) ≡ surface (after_merge v x y) x y
+                        → (sum.water + ground p b.tables.beds) / (p.side * p.side) ≡ surface (after_merge v x y) x y
                     surface_is sum e =
                         let to-four = e ∙ sum_is in
                         let here = sym (to_same_block v (pred k) x y x y refl refl) in
-                        (λ i. ((to-four i).water + ground_is b (pred k) x y p covers i) / (covers.side_is i * covers.side_is i))
+                        (λ i. ((to-four i).water + ground_is b (pred k) x y p covers.block i) / (covers.block.side_is i * covers.block.side_is i))
                         ∙ (λ i. ((cond (here i) (merged v x y) (v.leaf x y)).water + bed_sum v (cond (here i) (pred k) k) x y) / area v (cond (here i) (pred k) k))
 
                     pub merge_granted : (sum : Leaf) → sum ≡ joined f → (levels : List ℕ) (leaves : List Leaf) (w : ℕ)
-                        → levels ≡ levels_joined p b.tables.levels → leaves ≡ leaves_joined p sum b.tables.leaves
-                        → w ≡ (sum.water + ground_at p b.tables.beds) / (p.side * p.side)
+                        → levels ≡ levels_joined p (s.level - 1) b.tables.levels → leaves ≡ leaves_joined p sum b.tables.leaves
+                        → w ≡ (sum.water + ground p b.tables.beds) / (p.side * p.side)
                         → (granted w, basin b.head (tables levels b.tables.beds leaves)) ≡ perform (merge x y) b
                     merge_granted sum e levels leaves w lv lf sf =
                         let lv' = lv ∙ levels_are in

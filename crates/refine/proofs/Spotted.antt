@@ -1,19 +1,25 @@
 -- The windows and the quarters of the leaf at a spot.
-use Rattle.std.proofs.Common.{◌≡◌, ℕ, suc, ◌+◌, ◌-◌, ◌*◌, ◌/◌, ◌<◌, ◌≤◌, min, length, sym, ap, ◌∙◌, arith}
+use Rattle.std.proofs.Common.{◌≡◌, ℕ, suc, ◌+◌, ◌-◌, ◌*◌, ◌/◌, ◌<◌, ◌≤◌, Bool, min, length, Decides, sym, ap, ◌∙◌, subst, arith}
+use Rattle.basin.specs.declared.plot.Plot.{Plot}
+use Rattle.basin.specs.declared.window.Window.{Window}
 use Rattle.basin.specs.Basins.{Basin, view}
 use Rattle.basin.specs.Blocks.{block, block_sum}
+use Rattle.basin.specs.Plots.{window_of}
 use Rattle.basin.specs.Sums.{grid}
 use Rattle.basin.specs.Tables.{entry}
 use Rattle.basin.specs.Views.{side_of}
+use Rattle.basin.specs.Windows.{ring_at}
 use Rattle.basin.proofs.Sizes.{side_pos}
 use Rattle.runs.proofs.Sounds.{twice}
 use Rattle.calls.specs.declared.spot.Spot.{Spot}
-use Rattle.calls.specs.Spots.{Located, Covers}
+use Rattle.calls.specs.Spots.{Located}
+use Rattle.tables.specs.Surveys.{BlockAt}
 use Rattle.refine.specs.Shares.{child_ground}
-use Rattle.refine.specs.Windows.{BlockWindow, RingWindow, window_at, ring_at}
+use Rattle.refine.specs.Floods.{DryWindow}
+use Rattle.refine.specs.Windows.{Between, BlockWindow, RingWindow}
 
-module _ (b : Basin) (k x y : ℕ) (s : Spot) (l : Covers b k x y s) where
-  pub block_window_is : BlockWindow (view b) k x y (window_at s)
+module _ (b : Basin) (k x y : ℕ) (s : Plot) (l : BlockAt b k x y s) where
+  pub block_window_is : BlockWindow (view b) k x y (window_of s)
   block_window_is =
       record {
         west = l.west_is;
@@ -22,7 +28,7 @@ module _ (b : Basin) (k x y : ℕ) (s : Spot) (l : Covers b k x y s) where
         north = λ i. l.south_is i + l.side_is i;
       }
 
-  pub ring_window_is : RingWindow (view b) k x y (ring_at s.n (window_at s))
+  pub ring_window_is : RingWindow (view b) k x y (ring_at s.n (window_of s))
   ring_window_is =
       record {
         west = ap (λ p. p - 1) l.west_is;
@@ -32,8 +38,8 @@ module _ (b : Basin) (k x y : ℕ) (s : Spot) (l : Covers b k x y s) where
       }
 
 module _ (b : Basin) (x y : ℕ) (s : Spot) (l : Located b x y s) where
-  pub levels_full : length b.tables.levels ≡ s.n * s.n
-  levels_full = l.valid.full.levels ∙ (λ i. sym l.n_is i * sym l.n_is i)
+  pub levels_full : length b.tables.levels ≡ s.plot.n * s.plot.n
+  levels_full = l.valid.full.levels ∙ (λ i. sym l.block.n_is i * sym l.block.n_is i)
 
   -- a leaf that is not of the deepest level
   module _ (deep : (view b).level x y < b.head.L) where
@@ -43,13 +49,13 @@ module _ (b : Basin) (x y : ℕ) (s : Spot) (l : Located b x y s) where
     abbrev half : ℕ
     half = side_of (view b) (suc k)
 
-    pub twice_half : s.side ≡ half * 2
-    twice_half = l.side_is ∙ twice b.head.L k deep
+    pub twice_half : s.plot.side ≡ half * 2
+    twice_half = l.block.side_is ∙ twice b.head.L k deep
 
-    pub two_wide : 2 ≤ s.side
+    pub two_wide : 2 ≤ s.plot.side
     two_wide = let z = side_pos (b.head.L - suc k) in let e = twice_half in omega arith
 
-    pub half_is : s.side / 2 ≡ half
+    pub half_is : s.plot.side / 2 ≡ half
     half_is = let e = twice_half in omega arith
 
     abbrev X : ℕ
@@ -59,20 +65,30 @@ module _ (b : Basin) (x y : ℕ) (s : Spot) (l : Located b x y s) where
     Y = y / side_of (view b) k
 
     -- the south-west squares of the quarters
-    pub west_first : X * 2 * half ≡ s.west + 0
-    west_first = omega (arith, l.west_is, ap (λ n. X * n) (twice b.head.L k deep))
+    pub west_first : X * 2 * half ≡ s.plot.west
+    west_first = omega (arith, l.block.west_is, ap (λ n. X * n) (twice b.head.L k deep))
 
-    pub west_second : (X * 2 + 1) * half ≡ s.west + s.side / 2
-    west_second = omega (arith, l.west_is, ap (λ n. X * n) (twice b.head.L k deep), half_is)
+    pub west_second : (X * 2 + 1) * half ≡ s.plot.west + s.plot.side / 2
+    west_second = omega (arith, l.block.west_is, ap (λ n. X * n) (twice b.head.L k deep), half_is)
 
-    pub south_first : Y * 2 * half ≡ s.south + 0
-    south_first = omega (arith, l.south_is, ap (λ n. Y * n) (twice b.head.L k deep))
+    pub south_first : Y * 2 * half ≡ s.plot.south
+    south_first = omega (arith, l.block.south_is, ap (λ n. Y * n) (twice b.head.L k deep))
 
-    pub south_second : (Y * 2 + 1) * half ≡ s.south + s.side / 2
-    south_second = omega (arith, l.south_is, ap (λ n. Y * n) (twice b.head.L k deep), half_is)
+    pub south_second : (Y * 2 + 1) * half ≡ s.plot.south + s.plot.side / 2
+    south_second = omega (arith, l.block.south_is, ap (λ n. Y * n) (twice b.head.L k deep), half_is)
 
     -- the sum of the beds of a quarter
-    pub ground_is : (A B east north : ℕ) → A * half ≡ s.west + east → B * half ≡ s.south + north
-        → child_ground s b.tables.beds east north ≡ block_sum b.head.L (view b).bed (block (suc k) A B)
-    ground_is A B east north e f =
-        λ i. grid (half_is i) (λ p q. entry (l.n_is i) 0 b.tables.beds (sym e i + p) (sym f i + q))
+    pub ground_is : (A B west south : ℕ) → A * half ≡ west → B * half ≡ south
+        → child_ground s.plot b.tables.beds west south ≡ block_sum b.head.L (view b).bed (block (suc k) A B)
+    ground_is A B west south e f =
+        λ i. grid (half_is i) (λ p q. entry (l.block.n_is i) 0 b.tables.beds (sym e i + p) (sym f i + q))
+
+-- ---- what was asked of a survey was asked of the basin that it shows
+pub between_in : (a b : Basin) (r : Bool) (w : Window) (low high : ℕ) → a ≡ b → Decides r (Between (view a) w low high) → Decides r (Between (view b) w low high)
+between_in a b r w low high e told = subst (λ c. Decides r (Between (view c) w low high)) e told
+
+pub block_at : (a b : Basin) (k x y : ℕ) (p : Plot) → a ≡ b → BlockAt a k x y p → BlockAt b k x y p
+block_at a b k x y p e at = subst (λ c. BlockAt c k x y p) e at
+
+pub dry_in : (a b : Basin) (r : Bool) (j : ℕ) (w : Window) → a ≡ b → Decides r (DryWindow (view a) j w) → Decides r (DryWindow (view b) j w)
+dry_in a b r j w e told = subst (λ c. Decides r (DryWindow (view c) j w)) e told

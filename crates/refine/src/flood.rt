@@ -1,9 +1,9 @@
 // Whether dry ground would lie below the water beside it.
-ghost use Rattle.std.specs.Prelude.{◌≡◌, false, ◌<◌, ◌≤◌, Decides, MatchOption};
+ghost use Rattle.std.specs.Prelude.{◌≡◌, ◌≤◌, Decides, MatchOption};
 ghost use Rattle.basin.specs.Basins.{heading, side, view};
 ghost use Rattle.basin.specs.Squares.{bed_number as bed_number_of};
 ghost use Rattle.tables.specs.Surveys.{surveyed, On};
-ghost use Rattle.refine.specs.Floods.{flows_onto as flows_onto_of, DrySquare, DryWindow};
+ghost use Rattle.refine.specs.Floods.{flows_onto as flows_onto_of, KeepsOff, DrySquare, DryWindow};
 
 use basin::square::Square;
 use basin::window::Window;
@@ -35,7 +35,7 @@ fn keeps_off(survey: &Survey<'_>, level: u8, square: Square, from: Option<Square
     requires on { On (surveyed survey.now) square }
     requires from { MatchOption from (Unit {0}) (λ q. On (surveyed survey.now) q) }
     requires deep { level ≤ survey.now.head.levels }
-    ensures { Decides result (MatchOption from (Unit {0}) (λ q. flows_onto_of (view (surveyed survey.now)) level square.x square.y q.x q.y ≡ false)) }
+    ensures { Decides result (KeepsOff (view (surveyed survey.now)) level square.x square.y from) }
 {
     match from {
         Some(from) => !flows_onto(survey, level, square, from),
@@ -49,10 +49,9 @@ fn stays_dry_at(survey: &Survey<'_>, level: u8, square: Square) -> bool
     requires deep { level ≤ survey.now.head.levels }
     ensures { Decides result (DrySquare (view (surveyed survey.now)) level square.x square.y) }
 {
-    keeps_off(survey, level, square, square.east())
-        && keeps_off(survey, level, square, square.north())
-        && keeps_off(survey, level, square, square.west())
-        && keeps_off(survey, level, square, square.south())
+    square
+        .beside()
+        .all(|from| keeps_off(survey, level, square, from))
 }
 
 /// Whether no square across an edge would flow onto leaves of `level` in a window.

@@ -9,7 +9,14 @@ use basin::plot::Plot;
 use looks::surface::surface_of;
 
 /// Puts one leaf of `level` with the summed record in the place of the leaves on a plot, and answers its surface number.
-pub fn join(levels: &mut [u8], beds: &[u16], leaves: &mut [Leaf], plot: Plot, level: u8, sum: Leaf) -> u64
+pub fn join(
+    levels: &mut [u8],
+    beds: &[u16],
+    leaves: &mut [Leaf],
+    plot: Plot,
+    level: u8,
+    sum: Leaf,
+) -> u64
     requires levels { length levels.old ≡ plot.n * plot.n }
     requires beds { length beds.now ≡ plot.n * plot.n }
     requires leaves { length leaves.old ≡ plot.n * plot.n }

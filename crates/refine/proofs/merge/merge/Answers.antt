@@ -1,136 +1,115 @@
 -- Each refusal strikes in its turn, and what is granted is the merge.
-use Rattle.std.proofs.Common.{◌*◌, sym, refl, ◌∙◌, inl, inr, arith}
+use Rattle.std.proofs.Common.{◌≡◌, ◌-◌, Bool, true, Decides, ◌⊎◌, inl, inr}
 use Rattle.std.proofs.lemmas.Result.{err_from_is_err_and}
-use Rattle.basin.specs.Basins.{basin_of}
-use Rattle.calls.proofs.Placing.{located_fits}
-use Rattle.refine.proofs.Merging.{merge_refused, merge_alone, parent_fits, same_n, parent_deep, window_fits, merge_unequal, twins, merge_unbalanced, summable, merge_mixed, merge_flooded, merge_granted}
-use Rattle.refine.proofs.Spotted.{levels_full}
-use Rattle.refine.proofs.Windows.{ring_fits}
+use Rattle.basin.specs.Basins.{basin_of, view}
+use Rattle.calls.proofs.Placing.{placing_refused, placed_in, located_in}
+use Rattle.refine.specs.Floods.{DryWindow}
+use Rattle.refine.proofs.Merging.{merge_refused, merge_alone, merge_unequal, merge_unbalanced, merge_mixed, merge_flooded, merge_granted, twins, summable, above_deep}
+use Rattle.refine.proofs.Spotted.{block_at, between_in, dry_in}
 use Rattle.refine.proofs.merge.merge.Goals as goal
 use Rattle.refine.proofs.merge.merge.Goals.{else-family-eq0-via-then-family-eq0+else-not-stays_dry, else-family-eq0-via-else-family-eq0}
 
+pub returns-in_err-survey : goal.returns-in_err-survey
+returns-in_err-survey c =
+    let p = err_from_is_err_and c.from_residual.result c.from_residual.ensures.1 in
+    let b = basin_of c.args.head c.args.levels.now c.args.beds.now c.args.leaves.now in
+    rw (p.1, p.2) (merge_refused b _ _ _ (placing_refused b _ _ _ c.in_err-survey.ensures))
+
 pub returns-in_err-spot : goal.returns-in_err-spot
 returns-in_err-spot c =
-    let p = err_from_is_err_and c.from_residual.result c.from_residual.ensures.1 in
-    rw (p.1, p.2) (merge_refused (basin_of c.args.head c.args.levels.now c.args.beds.now c.args.leaves.now) _ _ _ c.in_err-spot.ensures)
+    let b = basin_of c.args.head c.args.levels.now c.args.beds.now c.args.leaves.now in
+    let p = err_from_is_err_and c.from_residual-in_err-spot.result c.from_residual-in_err-spot.ensures.1 in
+    rw (p.1, p.2) (merge_refused b _ _ _ (placed_in _ b _ _ _ c.in_ok-survey.ensures.0 c.in_err-spot.ensures))
 
 pub returns-then-spot-eq0 : goal.returns-then-spot-eq0
-returns-then-spot-eq0 c = merge_alone (basin_of c.args.head c.args.levels.now c.args.beds.now c.args.leaves.now) _ _ _ c.in_ok-spot.ensures c.if-spot-eq0.true
-
-pub parent_of-parent-requires : goal.parent_of-parent-requires
-parent_of-parent-requires c =
-    let f = located_fits (basin_of c.args.head c.args.levels.now c.args.beds.now c.args.leaves.now) _ _ _ c.in_ok-spot.ensures in
-    record {
-      above = omega (arith, c.if-spot-eq0.false);
-      some = f.some;
-      few = omega (arith, f.eastward, f.few);
-      west = omega (arith, f.eastward, f.few, f.some);
-      south = omega (arith, f.northward, f.few, f.some);
-    }
-
-pub block_window-block-requires : goal.block_window-block-requires
-block_window-block-requires c =
-    let f = parent_fits (basin_of c.args.head c.args.levels.now c.args.beds.now c.args.leaves.now) _ _ _ c.in_ok-spot.ensures
-    c.if-spot-eq0.false _ c.parent_of-parent.ensures _ refl in
-    record { east = omega (arith, f.eastward, f.few); north = omega (arith, f.northward, f.few) }
-
-pub all_between-requires : goal.all_between-requires
-all_between-requires c =
+returns-then-spot-eq0 c =
     let b = basin_of c.args.head c.args.levels.now c.args.beds.now c.args.leaves.now in
-    let l = c.in_ok-spot.ensures in
-    let f = located_fits (basin_of c.args.head c.args.levels.now c.args.beds.now c.args.leaves.now) _ _ _ c.in_ok-spot.ensures in
-    let w = window_fits b _ _ _ l c.if-spot-eq0.false _ c.parent_of-parent.ensures _ c.block_window-block.ensures in
-    record { few = f.few; full = levels_full b _ _ _ l; east = w.east; north = w.north; west = w.west }
+    let e = c.in_ok-survey.ensures.0 in
+    let l = located_in _ b _ _ _ e c.in_ok-spot.ensures in
+    merge_alone b _ _ _ l c.if-spot-eq0.true
 
 pub returns-then-not-all_between : goal.returns-then-not-all_between
 returns-then-not-all_between c =
-    merge_unequal (basin_of c.args.head c.args.levels.now c.args.beds.now c.args.leaves.now) _ _ _ c.in_ok-spot.ensures
-    c.if-spot-eq0.false _ c.parent_of-parent.ensures _ c.block_window-block.ensures _ c.all_between.ensures c.if-not-all_between.true
-
-pub ring_window-requires : goal.ring_window-requires
-ring_window-requires c =
     let b = basin_of c.args.head c.args.levels.now c.args.beds.now c.args.leaves.now in
-    let l = c.in_ok-spot.ensures in
-    let f = located_fits (basin_of c.args.head c.args.levels.now c.args.beds.now c.args.leaves.now) _ _ _ c.in_ok-spot.ensures in
-    let w = window_fits b _ _ _ l c.if-spot-eq0.false _ c.parent_of-parent.ensures _ c.block_window-block.ensures in
-    record { few = f.few; east = w.east; north = w.north }
-
-pub all_between-requires-2 : goal.all_between-requires-2
-all_between-requires-2 c =
-    let b = basin_of c.args.head c.args.levels.now c.args.beds.now c.args.leaves.now in
-    let l = c.in_ok-spot.ensures in
-    let f = located_fits (basin_of c.args.head c.args.levels.now c.args.beds.now c.args.leaves.now) _ _ _ c.in_ok-spot.ensures in
-    let w = ring_fits _ _ _ c.ring_window.ensures (window_fits b _ _ _ l c.if-spot-eq0.false _ c.parent_of-parent.ensures _ c.block_window-block.ensures) in
-    record { few = f.few; full = levels_full b _ _ _ l; east = w.east; north = w.north; west = w.west }
+    let e = c.in_ok-survey.ensures.0 in
+    let l = located_in _ b _ _ _ e c.in_ok-spot.ensures in
+    let is = block_at _ b _ _ _ _ e c.block-parent.ensures in
+    let even = between_in _ b _ _ _ _ e c.all_between.ensures in
+    merge_unequal b _ _ _ l c.if-spot-eq0.false _ is _ c.window-block.ensures _ even c.if-not-all_between.true
 
 pub returns-then-not-all_between-2 : goal.returns-then-not-all_between-2
 returns-then-not-all_between-2 c =
-    merge_unbalanced (basin_of c.args.head c.args.levels.now c.args.beds.now c.args.leaves.now) _ _ _ c.in_ok-spot.ensures
-    c.if-spot-eq0.false _ c.parent_of-parent.ensures _ c.block_window-block.ensures _ c.all_between.ensures c.if-not-all_between.false _ c.ring_window.ensures _ c.all_between-2.ensures c.if-not-all_between-2.true
+    let b = basin_of c.args.head c.args.levels.now c.args.beds.now c.args.leaves.now in
+    let e = c.in_ok-survey.ensures.0 in
+    let l = located_in _ b _ _ _ e c.in_ok-spot.ensures in
+    let is = block_at _ b _ _ _ _ e c.block-parent.ensures in
+    let even = between_in _ b _ _ _ _ e c.all_between.ensures in
+    let fine = between_in _ b _ _ _ _ e c.all_between-2.ensures in
+    merge_unbalanced b _ _ _ l c.if-spot-eq0.false _ is _ c.window-block.ensures _ even c.if-not-all_between.false _ c.ring.ensures _ fine c.if-not-all_between-2.true
 
-pub siblings-family-requires : goal.siblings-family-requires
-siblings-family-requires c =
-    let l = c.in_ok-spot.ensures in
-    let f = located_fits (basin_of c.args.head c.args.levels.now c.args.beds.now c.args.leaves.now) _ _ _ c.in_ok-spot.ensures in
-    let t = twins (basin_of c.args.head c.args.levels.now c.args.beds.now c.args.leaves.now) _ _ _ c.in_ok-spot.ensures c.if-spot-eq0.false _ c.parent_of-parent.ensures _ c.block_window-block.ensures _ c.all_between.ensures c.if-not-all_between.false in
-    record {
-      few = f.few;
-      some = f.some;
-      small = omega (arith, f.eastward, f.few);
-      full = f.all_leaves;
-      east = omega (arith, l.east, l.n_is);
-      north = omega (arith, l.north, l.n_is);
-      twin_east = t.east;
-      twin_north = t.north;
-    }
+pub siblings-family-requires-clause-twin_east : goal.siblings-family-requires-clause-twin_east
+siblings-family-requires-clause-twin_east c =
+    let b = basin_of c.args.head c.args.levels.now c.args.beds.now c.args.leaves.now in
+    let e = c.in_ok-survey.ensures.0 in
+    let l = located_in _ b _ _ _ e c.in_ok-spot.ensures in
+    let is = block_at _ b _ _ _ _ e c.block-parent.ensures in
+    let even = between_in _ b _ _ _ _ e c.all_between.ensures in
+    (twins b _ _ _ l c.if-spot-eq0.false _ is _ c.window-block.ensures _ even c.if-not-all_between.false).east
+
+pub siblings-family-requires-clause-twin_north : goal.siblings-family-requires-clause-twin_north
+siblings-family-requires-clause-twin_north c =
+    let b = basin_of c.args.head c.args.levels.now c.args.beds.now c.args.leaves.now in
+    let e = c.in_ok-survey.ensures.0 in
+    let l = located_in _ b _ _ _ e c.in_ok-spot.ensures in
+    let is = block_at _ b _ _ _ _ e c.block-parent.ensures in
+    let even = between_in _ b _ _ _ _ e c.all_between.ensures in
+    (twins b _ _ _ l c.if-spot-eq0.false _ is _ c.window-block.ensures _ even c.if-not-all_between.false).north
 
 pub returns-then-mixed : goal.returns-then-mixed
 returns-then-mixed c =
-    merge_mixed (basin_of c.args.head c.args.levels.now c.args.beds.now c.args.leaves.now) _ _ _ c.in_ok-spot.ensures
-    c.if-spot-eq0.false _ c.parent_of-parent.ensures _ c.block_window-block.ensures _ c.all_between.ensures c.if-not-all_between.false _ c.ring_window.ensures _ c.all_between-2.ensures
-    c.if-not-all_between-2.false _ c.siblings-family.ensures _ c.mixed.ensures c.if-mixed.true
-
-pub stays_dry-requires : goal.stays_dry-requires
-stays_dry-requires c =
-    let l = c.in_ok-spot.ensures in
-    let w = window_fits (basin_of c.args.head c.args.levels.now c.args.beds.now c.args.leaves.now) _ _ _ c.in_ok-spot.ensures c.if-spot-eq0.false _ c.parent_of-parent.ensures _ c.block_window-block.ensures in
-    record {
-      valid = l.valid;
-      deep = parent_deep (basin_of c.args.head c.args.levels.now c.args.beds.now c.args.leaves.now) _ _ _ c.in_ok-spot.ensures c.if-spot-eq0.false _ c.parent_of-parent.ensures _ c.block_window-block.ensures;
-      east = omega (arith, w.east, l.n_is);
-      north = omega (arith, w.north, l.n_is);
-    }
+    let b = basin_of c.args.head c.args.levels.now c.args.beds.now c.args.leaves.now in
+    let e = c.in_ok-survey.ensures.0 in
+    let l = located_in _ b _ _ _ e c.in_ok-spot.ensures in
+    let is = block_at _ b _ _ _ _ e c.block-parent.ensures in
+    let even = between_in _ b _ _ _ _ e c.all_between.ensures in
+    let fine = between_in _ b _ _ _ _ e c.all_between-2.ensures in
+    merge_mixed b _ _ _ l c.if-spot-eq0.false _ is _ c.window-block.ensures _ even c.if-not-all_between.false _ c.ring.ensures _ fine c.if-not-all_between-2.false _ c.siblings-family.ensures _ c.mixed.ensures c.if-mixed.true
 
 pub returns-then-not-stays_dry : goal.returns-then-not-stays_dry
 returns-then-not-stays_dry c =
-    merge_flooded (basin_of c.args.head c.args.levels.now c.args.beds.now c.args.leaves.now) _ _ _ c.in_ok-spot.ensures
-    c.if-spot-eq0.false _ c.parent_of-parent.ensures _ c.block_window-block.ensures _ c.all_between.ensures c.if-not-all_between.false _ c.ring_window.ensures _ c.all_between-2.ensures
-    c.if-not-all_between-2.false _ c.siblings-family.ensures _ c.mixed.ensures c.if-mixed.false _ c.stays_dry.ensures c.if-family-eq0.true c.if-not-stays_dry.true
+    let b = basin_of c.args.head c.args.levels.now c.args.beds.now c.args.leaves.now in
+    let e = c.in_ok-survey.ensures.0 in
+    let l = located_in _ b _ _ _ e c.in_ok-spot.ensures in
+    let is = block_at _ b _ _ _ _ e c.block-parent.ensures in
+    let even = between_in _ b _ _ _ _ e c.all_between.ensures in
+    let fine = between_in _ b _ _ _ _ e c.all_between-2.ensures in
+    let dry = dry_in _ b _ _ _ e c.stays_dry.ensures in
+    merge_flooded b _ _ _ l c.if-spot-eq0.false _ is _ c.window-block.ensures _ even c.if-not-all_between.false _ c.ring.ensures _ fine c.if-not-all_between-2.false _ c.siblings-family.ensures _ c.mixed.ensures c.if-mixed.false _ dry c.if-family-eq0.true c.if-not-stays_dry.true
+
+pub stays_dry-requires-clause-deep : goal.stays_dry-requires-clause-deep
+stays_dry-requires-clause-deep c = above_deep _ _ _ _ c.in_ok-spot.ensures c.if-spot-eq0.false
 
 pub joined-requires : goal.joined-requires
 joined-requires c =
-    let s = summable (basin_of c.args.head c.args.levels.now c.args.beds.now c.args.leaves.now) _ _ _ c.in_ok-spot.ensures
-    c.if-spot-eq0.false _ c.parent_of-parent.ensures _ c.block_window-block.ensures _ c.all_between.ensures c.if-not-all_between.false _ c.ring_window.ensures _ c.all_between-2.ensures
-    c.if-not-all_between-2.false _ c.siblings-family.ensures in
-    record { few = s.few; own = s.own; beside = s.beside; above = s.above; across = s.across }
-
-pub join-requires : goal.join-requires
-join-requires c =
     let b = basin_of c.args.head c.args.levels.now c.args.beds.now c.args.leaves.now in
-    let l = c.in_ok-spot.ensures in
-    let n = same_n b _ _ _ l c.if-spot-eq0.false _ c.parent_of-parent.ensures _ c.block_window-block.ensures in
-    record {
-      fits = parent_fits b _ _ _ l c.if-spot-eq0.false _ c.parent_of-parent.ensures _ c.block_window-block.ensures;
-      full = levels_full b _ _ _ l ∙ (λ i. sym n i * sym n i);
-    }
+    let e = c.in_ok-survey.ensures.0 in
+    let l = located_in _ b _ _ _ e c.in_ok-spot.ensures in
+    let is = block_at _ b _ _ _ _ e c.block-parent.ensures in
+    let even = between_in _ b _ _ _ _ e c.all_between.ensures in
+    let fine = between_in _ b _ _ _ _ e c.all_between-2.ensures in
+    let s = summable b _ _ _ l c.if-spot-eq0.false _ is _ c.window-block.ensures _ even c.if-not-all_between.false _ c.ring.ensures _ fine c.if-not-all_between-2.false _ c.siblings-family.ensures in
+    record { few = s.few; own = s.own; beside = s.beside; above = s.above; across = s.across }
 
 pub returns : goal.returns
 returns c =
-    merge_granted (basin_of c.args.head c.args.levels.now c.args.beds.now c.args.leaves.now) _ _ _ c.in_ok-spot.ensures
-    c.if-spot-eq0.false _ c.parent_of-parent.ensures _ c.block_window-block.ensures _ c.all_between.ensures c.if-not-all_between.false _ c.ring_window.ensures _ c.all_between-2.ensures
-    c.if-not-all_between-2.false _ c.siblings-family.ensures _ c.mixed.ensures c.if-mixed.false
-    (elim c.else-family-eq0.branch [
-      | else-family-eq0-via-then-family-eq0+else-not-stays_dry w ↦ inr (w.stays_dry.result, w.stays_dry.ensures, w.if-not-stays_dry.false)
+    let b = basin_of c.args.head c.args.levels.now c.args.beds.now c.args.leaves.now in
+    let e = c.in_ok-survey.ensures.0 in
+    let l = located_in _ b _ _ _ e c.in_ok-spot.ensures in
+    let is = block_at _ b _ _ _ _ e c.block-parent.ensures in
+    let even = between_in _ b _ _ _ _ e c.all_between.ensures in
+    let fine = between_in _ b _ _ _ _ e c.all_between-2.ensures in
+    let seen : (c.siblings-family.result.own.water ≡ 0 → ⊥) ⊎ ((g : Bool) × Decides g (DryWindow (view (basin_of c.args.head c.args.levels.now c.args.beds.now c.args.leaves.now)) (c.in_ok-spot.spot.level - 1) c.window-block.result) × (g ≡ true)) = elim c.else-family-eq0.branch [
+      | else-family-eq0-via-then-family-eq0+else-not-stays_dry w ↦ inr (w.stays_dry.result, dry_in _ b _ _ _ e w.stays_dry.ensures, w.if-not-stays_dry.false)
       | else-family-eq0-via-else-family-eq0 w ↦ inl w.if-family-eq0.false
-    ])
-    _ c.joined.ensures _ _ _ c.join.ensures.levels c.join.ensures.leaves c.join.ensures.surface
+    ] in
+    merge_granted b _ _ _ l c.if-spot-eq0.false _ is _ c.window-block.ensures _ even c.if-not-all_between.false _ c.ring.ensures _ fine c.if-not-all_between-2.false _ c.siblings-family.ensures _ c.mixed.ensures c.if-mixed.false seen _ c.joined.ensures _ _ _ c.join.ensures.levels c.join.ensures.leaves c.join.ensures.surface

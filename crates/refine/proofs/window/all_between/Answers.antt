@@ -1,10 +1,12 @@
-use Rattle.std.proofs.Common.{arith}
-use Rattle.refine.proofs.Windows.{row_fits, no_row}
+-- The levels are between where each square's is.
+use Rattle.std.proofs.Common.{rules, ◌≤◌}
+use Rattle.basin.specs.Basins.{view}
+use Rattle.basin.proofs.Windows.{decided_by_squares}
+use Rattle.tables.specs.Surveys.{surveyed}
 use Rattle.refine.proofs.window.all_between.Goals as goal
 
-pub run_between-requires : goal.run_between-requires
-run_between-requires c = row_fits _ _ _ _ c.requires.east (omega (arith, c.requires.north)) c.requires.full
-
-pub returns-then-not-run_between : goal.returns-then-not-run_between
-returns-then-not-run_between c =
-    no_row c.args.n c.loop-y.y _ c.args.window c.args.low c.args.high _ (omega arith) (omega arith) c.run_between.ensures c.if-not-run_between.true
+pub returns : goal.returns
+returns c =
+    let v = view (surveyed c.args.survey.now) in
+    decided_by_squares c.args.window (λ x y. (c.args.low ≤ v.level x y) × (v.level x y ≤ c.args.high)) c.passes.result c.passes.ensures
+    (λ x y s p. search rules) (λ x y s p. search rules)
