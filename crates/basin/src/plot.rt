@@ -9,5 +9,5 @@ pub struct Plot {
     pub west: usize,
     pub south: usize,
     pub side: usize,
-    ghost inside: { (n ≤ 64) × (1 ≤ side) × (west + side ≤ n) × (south + side ≤ n) },
+    ghost inside: { (n ≤ 64) × (west + side ≤ n) × (south + side ≤ n) },
 }

@@ -6,7 +6,6 @@ ghost use Rattle.basin.specs.Plots.{Spans, Quartered, window_of};
 use crate::fill::fill_block;
 use crate::plot::Plot;
 use crate::quarters::Quarters;
-use crate::size::place;
 use crate::window::Window;
 
 impl Plot {
@@ -14,7 +13,7 @@ impl Plot {
     pub fn corner(self) -> usize
         ensures { result ≡ self.south * self.n + self.west }
     {
-        place(self.n, self.west, self.south)
+        self.south * self.n + self.west
     }
 
     /// The number of squares.
@@ -48,7 +47,6 @@ impl Plot {
 
     /// The block of half the side, so many squares east and north of the south-west one.
     fn half(self, east: usize, north: usize) -> Plot
-        requires coarse { 2 ≤ self.side }
         requires east { east ≤ self.side / 2 }
         requires north { north ≤ self.side / 2 }
         ensures { Spans self.n (self.west + east) (self.south + north) (self.side / 2) result }
@@ -61,9 +59,8 @@ impl Plot {
         }
     }
 
-    /// The four quarters of a plot that can be cut.
+    /// The four quarters, each of half the side.
     pub fn quarters(self) -> Quarters<Plot>
-        requires { 2 ≤ self.side }
         ensures { Quartered self result }
     {
         let half = self.side / 2;

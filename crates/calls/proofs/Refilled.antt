@@ -1,5 +1,5 @@
 -- The basin and the surface number once a leaf has been given its water.
-use Rattle.std.proofs.Common.{◌≡◌, ℕ, ◌+◌, ◌*◌, ◌/◌, ◌^◌, cond, not, List, length, sym, refl, ap, ◌∙◌}
+use Rattle.std.proofs.Common.{◌≡◌, ℕ, ◌+◌, ◌-◌, ◌*◌, ◌/◌, ◌^◌, ◌≤◌, cond, not, List, length, sym, refl, ap, ◌∙◌}
 use Rattle.basin.specs.declared.leaf.Leaf.{Leaf}
 use Rattle.basin.specs.declared.plot.Plot.{Plot}
 use Rattle.basin.specs.Basins.{Basin, basin, tables, side, view}
@@ -52,6 +52,9 @@ beds_long b x y s l = l.valid.full.beds ∙ sym (λ i. l.block.n_is i * l.block.
 
 pub leaves_long : (b : Basin) (x y : ℕ) (s : Spot) → Located b x y s → length b.tables.leaves ≡ s.plot.n * s.plot.n
 leaves_long b x y s l = l.valid.full.leaves ∙ sym (λ i. l.block.n_is i * l.block.n_is i)
+
+pub plot_some : (b : Basin) (x y : ℕ) (s : Spot) → Located b x y s → 1 ≤ s.plot.side
+plot_some b x y s l = rw l.block.side_is (side_pos (b.head.L - (view b).level x y))
 
 module _ (b : Basin) (x y : ℕ) (s : Spot) (l : Located b x y s) (w : ℕ) where
   abbrev k : ℕ

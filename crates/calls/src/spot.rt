@@ -1,5 +1,5 @@
 // The leaf at a square, on which a call works.
-ghost use Rattle.std.specs.Prelude.{◌≡◌, ◌+◌, ◌*◌, ◌/◌, length, Err, MatchResult};
+ghost use Rattle.std.specs.Prelude.{◌≡◌, ◌+◌, ◌*◌, ◌/◌, ◌≤◌, length, Err, MatchResult};
 ghost use Rattle.basin.specs.Basins.{basin_of};
 ghost use Rattle.basin.specs.Plots.{ground};
 ghost use Rattle.calls.specs.Spots.{Located, placing, refilled};
@@ -63,6 +63,7 @@ pub fn locate(
 pub fn refill(spot: Spot, beds: &[u16], leaves: &mut [Leaf], water: u32) -> u64
     requires beds { length beds.now ≡ spot.plot.n * spot.plot.n }
     requires leaves { length leaves.old ≡ spot.plot.n * spot.plot.n }
+    requires some { 1 ≤ spot.plot.side }
     ensures leaves { leaves.new ≡ refilled spot water leaves.old }
     ensures surface { result ≡ (water + ground spot.plot beds.now) / (spot.plot.side * spot.plot.side) }
 {

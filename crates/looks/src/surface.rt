@@ -3,6 +3,8 @@ ghost use Rattle.std.specs.Prelude.{◌≡◌, ◌+◌, ◌*◌, ◌/◌, ◌≤
 ghost use Rattle.basin.specs.Basins.{view};
 ghost use Rattle.basin.specs.Plots.{ground};
 ghost use Rattle.basin.specs.Squares.{surface};
+ghost use Rattle.basin.specs.Sums.{grid};
+ghost use Rattle.basin.specs.Tables.{entry};
 ghost use Rattle.tables.specs.Surveys.{surveyed, On};
 
 use basin::plot::Plot;
@@ -18,26 +20,39 @@ fn row_beds(row: &[u16]) -> u64
     row.iter().map(|bed| *bed as u64).sum()
 }
 
-/// The sum of the beds of a plot.
-pub fn block_beds(beds: &[u16], plot: Plot) -> u64
-    requires { length beds.now ≡ plot.n * plot.n }
-    ensures value { result ≡ ground plot beds.now }
+/// The sum of the beds of a block of `count` by `count` squares, of which (x, y) is the south-west one, in a basin of `n` by `n`.
+pub fn block_beds(beds: &[u16], n: usize, x: usize, y: usize, count: usize) -> u64
+    requires few { count ≤ 64 }
+    requires full { length beds.now ≡ n * n }
+    requires east { x + count ≤ n }
+    requires north { y + count ≤ n }
+    ensures value { result ≡ grid count (λ i j. entry n 0 beds.now (x + i) (y + j)) }
     ensures most { result ≤ 65535 * 4096 }
 {
     let mut sum = 0;
-    for j in 0..plot.side {
-        let start = (plot.south + j) * plot.n + plot.west;
-        sum += row_beds(&beds[start..start + plot.side]);
+    for j in 0..count {
+        let start = (y + j) * n + x;
+        sum += row_beds(&beds[start..start + count]);
     }
     sum
 }
 
+/// The sum of the beds of a plot.
+pub fn plot_beds(beds: &[u16], plot: Plot) -> u64
+    requires { length beds.now ≡ plot.n * plot.n }
+    ensures value { result ≡ ground plot beds.now }
+    ensures most { result ≤ 65535 * 4096 }
+{
+    block_beds(beds, plot.n, plot.west, plot.south, plot.side)
+}
+
 /// The surface number of a leaf on a plot that holds `water`: water and beds together, shared out over the leaf's area.
 pub fn surface_of(beds: &[u16], plot: Plot, water: u32) -> u64
-    requires { length beds.now ≡ plot.n * plot.n }
+    requires full { length beds.now ≡ plot.n * plot.n }
+    requires some { 1 ≤ plot.side }
     ensures { result ≡ (water + ground plot beds.now) / (plot.side * plot.side) }
 {
-    (water as u64 + block_beds(beds, plot)) / plot.area() as u64
+    (water as u64 + plot_beds(beds, plot)) / plot.area() as u64
 }
 
 /// The surface number W at a square of a valid basin.

@@ -97,11 +97,12 @@ module _ (b : Basin) (x y : ℕ) (s : Spot) (l : Located b x y s) where
       block_window = subst (BlockWindow v (pred k) x y) (sym window-of) (block_window_is b (pred k) x y p covers.block)
 
       -- ---- siblings of another level
-      module _ (r : Bool) (even : Decides r (Between v window s.level s.level)) where
+      module _ (r : Bool) (even : Decides r (Between p.n b.tables.levels window s.level s.level)) where
         siblings_are : no_siblings v x y ≡ not r
         siblings_are =
             siblings_told v x y l.east l.north window r (omega (arith, deep)) block_window
-            (subst (λ k. Decides r (Between v window k k)) l.level_is even)
+            (subst (λ k. Decides r (Between (side b.head) b.tables.levels window k k)) l.level_is
+            (subst (λ n. Decides r (Between n b.tables.levels window s.level s.level)) is.n_is even))
 
         pub merge_unequal : r ≡ false → (refused NotDivisible, b) ≡ perform (merge x y) b
         merge_unequal e =
@@ -126,12 +127,13 @@ module _ (b : Basin) (x y : ℕ) (s : Spot) (l : Located b x y s) where
 
           -- ---- a finer leaf beside
           module _ (ring : Window) (ring_of : ring ≡ ring_at p.n window) (q : Bool)
-              (fine : Decides q (Between v ring 0 s.level)) where
+              (fine : Decides q (Between p.n b.tables.levels ring 0 s.level)) where
             finer_is : t₆ ≡ not q
             finer_is =
                 finer_told v x y l.east l.north ring q (omega (arith, deep))
                 (subst (λ w. RingWindow v (pred k) x y w) (sym (ring_of ∙ ap (ring_at p.n) window-of)) (ring_window_is b (pred k) x y p covers.block))
-                (subst (λ k. Decides q (Between v ring 0 k)) l.level_is fine)
+                (subst (λ k. Decides q (Between (side b.head) b.tables.levels ring 0 k)) l.level_is
+                (subst (λ n. Decides q (Between n b.tables.levels ring 0 s.level)) is.n_is fine))
 
             pub merge_unbalanced : q ≡ false → (refused Unbalanced, b) ≡ perform (merge x y) b
             merge_unbalanced e = let u = finer_is ∙ ap not e in strike Unbalanced (λ i. by_tests (four_leaves i) (u i) t₇)

@@ -93,12 +93,13 @@ module _ (b : Basin) (x y : ℕ) (s : Spot) (l : Located b x y s) where
 
     -- ---- a coarser leaf beside
     module _ (window ring : Window) (window-of : window ≡ window_of s.plot) (ring_of : ring ≡ ring_at s.plot.n window)
-        (r : Bool) (even : Decides r (Between v ring s.level b.head.L)) where
+        (r : Bool) (even : Decides r (Between s.plot.n b.tables.levels ring s.level b.head.L)) where
       coarser_is : t₆ ≡ not r
       coarser_is =
           coarser_told v x y l.east l.north ring r (omega (arith, deep))
           (subst (λ w. RingWindow v k x y w) (sym (ring_of ∙ ap (ring_at s.plot.n) window-of)) (ring_window_is b k x y s.plot l.block))
-          (subst (λ k. Decides r (Between v ring k b.head.L)) l.level_is even)
+          (subst (λ k. Decides r (Between (side b.head) b.tables.levels ring k b.head.L)) l.level_is
+          (subst (λ n. Decides r (Between n b.tables.levels ring s.level b.head.L)) l.block.n_is even))
           l.valid.squares.quadtree.shallow
 
       pub split_unbalanced : r ≡ false → (refused Unbalanced, b) ≡ perform (split x y) b

@@ -16,7 +16,7 @@ use Rattle.calls.specs.Spots.{Located}
 use Rattle.tables.specs.Surveys.{BlockAt}
 use Rattle.refine.specs.Shares.{child_ground}
 use Rattle.refine.specs.Floods.{DryWindow}
-use Rattle.refine.specs.Windows.{Between, BlockWindow, RingWindow}
+use Rattle.refine.specs.Windows.{BlockWindow, RingWindow}
 
 module _ (b : Basin) (k x y : ℕ) (s : Plot) (l : BlockAt b k x y s) where
   pub block_window_is : BlockWindow (view b) k x y (window_of s)
@@ -84,9 +84,6 @@ module _ (b : Basin) (x y : ℕ) (s : Spot) (l : Located b x y s) where
         λ i. grid (half_is i) (λ p q. entry (l.block.n_is i) 0 b.tables.beds (sym e i + p) (sym f i + q))
 
 -- ---- what was asked of a survey was asked of the basin that it shows
-pub between_in : (a b : Basin) (r : Bool) (w : Window) (low high : ℕ) → a ≡ b → Decides r (Between (view a) w low high) → Decides r (Between (view b) w low high)
-between_in a b r w low high e told = subst (λ c. Decides r (Between (view c) w low high)) e told
-
 pub block_at : (a b : Basin) (k x y : ℕ) (p : Plot) → a ≡ b → BlockAt a k x y p → BlockAt b k x y p
 block_at a b k x y p e at = subst (λ c. BlockAt c k x y p) e at
 

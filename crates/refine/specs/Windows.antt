@@ -1,12 +1,13 @@
 -- The levels of a window's squares, and the windows of blocks.
-use Rattle.std.specs.Prelude.{◌≡◌, ℕ, ◌+◌, ◌-◌, ◌*◌, ◌/◌, ◌≤◌, min}
+use Rattle.std.specs.Prelude.{◌≡◌, ℕ, ◌+◌, ◌-◌, ◌*◌, ◌/◌, ◌≤◌, min, List}
 use Rattle.basin.specs.declared.window.Window.{Window}
+use Rattle.basin.specs.Tables.{entry}
 use Rattle.basin.specs.Views.{View, size, side_of}
 use Rattle.basin.specs.Windows.{Seen}
 
 -- the levels of the window's squares are from low to high
-abbrev pub Between : View → Window → (low high : ℕ) → Type 0
-Between v w low high = (x y : ℕ) → Seen w x y → (low ≤ v.level x y) × (v.level x y ≤ high)
+abbrev pub Between : ℕ → List ℕ → Window → (low high : ℕ) → Type 0
+Between n levels w low high = (x y : ℕ) → Seen w x y → (low ≤ entry n 0 levels x y) × (entry n 0 levels x y ≤ high)
 
 -- the window of the block of level k at (x, y), and that of the block with the squares that touch it
 pub record BlockWindow (v : View) (k x y : ℕ) (w : Window) : Type 0 where

@@ -10,7 +10,7 @@ use basin::plot::Plot;
 use basin::quarters::Quarters;
 use basin::refusal::Refusal;
 use calls::spot::Spot;
-use looks::surface::block_beds;
+use looks::surface::plot_beds;
 
 /// The records of the children, of `area` squares each, that get these shares.
 fn children(area: usize, shares: Quarters<u64>, leaf: Leaf) -> Quarters<Leaf>
@@ -22,7 +22,6 @@ fn children(area: usize, shares: Quarters<u64>, leaf: Leaf) -> Quarters<Leaf>
 
 /// A wet leaf divided: each child gets a fourth of water and beds together, less its own beds.
 fn divide_wet(plot: Plot, beds: &[u16], leaf: Leaf, loose: u32) -> Result<Division, Refusal>
-    requires coarse { 2 ≤ plot.side }
     requires full { length beds.now ≡ plot.n * plot.n }
     requires little { loose ≤ 1000000 }
     ensures value { result ≡ wet_division plot beds.now leaf loose }
@@ -30,7 +29,7 @@ fn divide_wet(plot: Plot, beds: &[u16], leaf: Leaf, loose: u32) -> Result<Divisi
 {
     let half = plot.side / 2;
     let area = half * half;
-    let fill = leaf.water as u64 + block_beds(beds, plot);
+    let fill = leaf.water as u64 + plot_beds(beds, plot);
     let quarter = fill / 4;
     let shares = shares(plot, beds, quarter);
     if leaves_bare(shares) {
@@ -51,7 +50,6 @@ fn divide_wet(plot: Plot, beds: &[u16], leaf: Leaf, loose: u32) -> Result<Divisi
 
 /// A leaf divided: a dry one has dry children.
 pub fn divide(plot: Plot, beds: &[u16], leaf: Leaf, loose: u32) -> Result<Division, Refusal>
-    requires coarse { 2 ≤ plot.side }
     requires full { length beds.now ≡ plot.n * plot.n }
     requires little { loose ≤ 1000000 }
     ensures value { result ≡ division_of plot beds.now leaf loose }
@@ -75,7 +73,6 @@ pub fn divide(plot: Plot, beds: &[u16], leaf: Leaf, loose: u32) -> Result<Divisi
 pub fn cut(levels: &mut [u8], leaves: &mut [Leaf], spot: Spot, children: Quarters<Leaf>)
     requires levels { length levels.old ≡ spot.plot.n * spot.plot.n }
     requires leaves { length leaves.old ≡ spot.plot.n * spot.plot.n }
-    requires coarse { 2 ≤ spot.plot.side }
     requires few { spot.level < 6 }
     ensures levels { levels.new ≡ levels_cut spot.plot spot.level levels.old }
     ensures leaves { leaves.new ≡ leaves_cut spot.plot children leaves.old }

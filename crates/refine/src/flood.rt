@@ -7,7 +7,7 @@ ghost use Rattle.refine.specs.Floods.{flows_onto as flows_onto_of, KeepsOff, Dry
 
 use basin::square::Square;
 use basin::window::Window;
-use looks::surface::{block_beds, surface_at};
+use looks::surface::{plot_beds, surface_at};
 use tables::survey::Survey;
 
 /// The bed number that a leaf of `level` has at a square of a valid basin.
@@ -17,7 +17,7 @@ fn bed_number(survey: &Survey<'_>, level: u8, square: Square) -> u64
     ensures { result ≡ bed_number_of (view (surveyed survey.now)) level square.x square.y }
 {
     let plot = survey.block(level, square);
-    block_beds(survey.beds, plot) / plot.area() as u64
+    plot_beds(survey.beds, plot) / plot.area() as u64
 }
 
 /// Whether the square `from` is wet and its surface above the bed number of a leaf of `level` at another.

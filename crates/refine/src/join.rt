@@ -1,5 +1,5 @@
 // The block that four siblings make, and the leaf in their place.
-ghost use Rattle.std.specs.Prelude.{◌≡◌, ◌+◌, ◌*◌, ◌/◌, length};
+ghost use Rattle.std.specs.Prelude.{◌≡◌, ◌+◌, ◌*◌, ◌/◌, ◌≤◌, length};
 ghost use Rattle.basin.specs.Plots.{ground};
 ghost use Rattle.refine.specs.Joins.{levels_joined, leaves_joined};
 
@@ -17,6 +17,7 @@ pub fn join(
     level: u8,
     sum: Leaf,
 ) -> u64
+    requires some { 1 ≤ plot.side }
     requires levels { length levels.old ≡ plot.n * plot.n }
     requires beds { length beds.now ≡ plot.n * plot.n }
     requires leaves { length leaves.old ≡ plot.n * plot.n }

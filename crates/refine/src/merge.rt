@@ -33,10 +33,10 @@ pub fn merge(
     let above = spot.level - 1;
     let parent = survey.block(above, spot.square);
     let block = parent.window();
-    if !all_between(&survey, block, spot.level, spot.level) {
+    if !all_between(levels, parent.n, block, spot.level, spot.level) {
         return Err(Refusal::NotDivisible);
     }
-    if !all_between(&survey, block.ring(parent.n), 0, spot.level) {
+    if !all_between(levels, parent.n, block.ring(parent.n), 0, spot.level) {
         return Err(Refusal::Unbalanced);
     }
     let family = siblings(leaves, spot);

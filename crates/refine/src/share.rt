@@ -7,16 +7,15 @@ use basin::finish::finish;
 use basin::leaf::{Leaf, may_hold};
 use basin::plot::Plot;
 use basin::quarters::Quarters;
-use looks::surface::block_beds;
+use looks::surface::plot_beds;
 
 /// The water of each child: what its quarter of water and beds has above its own beds.
 pub fn shares(plot: Plot, beds: &[u16], quarter: u64) -> Quarters<u64>
-    requires coarse { 2 ≤ plot.side }
-    requires full { length beds.now ≡ plot.n * plot.n }
+    requires { length beds.now ≡ plot.n * plot.n }
     ensures { result ≡ shares_of plot beds.now quarter }
 {
     plot.quarters()
-        .map(|child| quarter.saturating_sub(block_beds(beds, child)))
+        .map(|child| quarter.saturating_sub(plot_beds(beds, child)))
 }
 
 /// Whether some child would be dry.

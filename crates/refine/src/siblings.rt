@@ -39,6 +39,7 @@ pub fn both(a: Leaf, b: Leaf) -> Leaf
 
 /// The records of the leaf at a spot and of its siblings.
 pub fn siblings(leaves: &[Leaf], spot: Spot) -> Siblings
+    requires some { 1 ≤ spot.plot.side }
     requires full { length leaves.now ≡ spot.square.n * spot.square.n }
     requires twin_east { twin_of spot.plot.side spot.square.x < spot.square.n }
     requires twin_north { twin_of spot.plot.side spot.square.y < spot.square.n }

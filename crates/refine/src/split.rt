@@ -30,7 +30,8 @@ pub fn split(
         return Err(Refusal::NotDivisible);
     }
     let block = spot.plot.window();
-    if !all_between(&survey, block.ring(spot.plot.n), spot.level, head.levels) {
+    let n = spot.plot.n;
+    if !all_between(levels, n, block.ring(n), spot.level, head.levels) {
         return Err(Refusal::Unbalanced);
     }
     if spot.leaf.water == 0 && !stays_dry(&survey, spot.level + 1, block) {

@@ -1,21 +1,18 @@
 // The levels of a window's squares.
-ghost use Rattle.std.specs.Prelude.{◌≤◌, Decides};
-ghost use Rattle.basin.specs.Basins.{heading, side, view};
-ghost use Rattle.tables.specs.Surveys.{surveyed};
+ghost use Rattle.std.specs.Prelude.{◌≡◌, ◌*◌, ◌≤◌, length, Decides};
 ghost use Rattle.refine.specs.Windows.{Between};
 
 use basin::window::Window;
-use tables::survey::Survey;
 
-/// Whether the levels of all squares of a window are from `low` to `high`.
-pub fn all_between(survey: &Survey<'_>, window: Window, low: u8, high: u8) -> bool
-    requires east { window.east ≤ side (heading survey.now.head) }
-    requires north { window.north ≤ side (heading survey.now.head) }
-    ensures { Decides result (Between (view (surveyed survey.now)) window low high) }
+/// Whether the levels of all squares of a window are from `low` to `high`, in a basin of `n` by `n` squares.
+pub fn all_between(levels: &[u8], n: usize, window: Window, low: u8, high: u8) -> bool
+    requires full { length levels.now ≡ n * n }
+    requires east { window.east ≤ n }
+    requires north { window.north ≤ n }
+    ensures { Decides result (Between n levels.now window low high) }
 {
-    let n = survey.head.side();
     window.passes(|x, y| {
-        let level = survey.levels[y * n + x];
+        let level = levels[y * n + x];
         low <= level && level <= high
     })
 }

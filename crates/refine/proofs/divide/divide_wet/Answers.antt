@@ -6,7 +6,7 @@ use Rattle.refine.proofs.divide.divide_wet.Goals as goal
 pub returns-then-leaves_bare : goal.returns-then-leaves_bare
 returns-then-leaves_bare c =
     record {
-      value = wet_bare c.args.plot c.args.beds.now c.args.leaf c.args.loose _ _ c.block_beds.ensures.value c.shares-shares.ensures
+      value = wet_bare c.args.plot c.args.beds.now c.args.leaf c.args.loose _ _ c.plot_beds.ensures.value c.shares-shares.ensures
           (sym c.leaves_bare.ensures ∙ c.if-leaves_bare.true);
       few = tt;
     }
@@ -17,7 +17,7 @@ overfills-requires c = child_small c.args.plot
 pub returns-then-overfills : goal.returns-then-overfills
 returns-then-overfills c =
     record {
-      value = wet_full c.args.plot c.args.beds.now c.args.leaf c.args.loose _ _ c.block_beds.ensures.value c.shares-shares.ensures
+      value = wet_full c.args.plot c.args.beds.now c.args.leaf c.args.loose _ _ c.plot_beds.ensures.value c.shares-shares.ensures
           (sym c.leaves_bare.ensures ∙ c.if-leaves_bare.false) (sym c.overfills.ensures ∙ c.if-overfills.true);
       few = tt;
     }
@@ -25,7 +25,7 @@ returns-then-overfills c =
 pub returns-then-loose-remainder-gt1000000 : goal.returns-then-loose-remainder-gt1000000
 returns-then-loose-remainder-gt1000000 c =
     record {
-      value = wet_over c.args.plot c.args.beds.now c.args.leaf c.args.loose _ _ c.block_beds.ensures.value c.shares-shares.ensures
+      value = wet_over c.args.plot c.args.beds.now c.args.leaf c.args.loose _ _ c.plot_beds.ensures.value c.shares-shares.ensures
           (sym c.leaves_bare.ensures ∙ c.if-leaves_bare.false) (sym c.overfills.ensures ∙ c.if-overfills.false)
           c.if-loose-remainder-gt1000000.true;
       few = tt;
@@ -39,7 +39,7 @@ children-requires c =
 pub returns : goal.returns
 returns c =
     record {
-      value = wet_divided c.args.plot c.args.beds.now c.args.leaf c.args.loose _ _ c.block_beds.ensures.value c.shares-shares.ensures
+      value = wet_divided c.args.plot c.args.beds.now c.args.leaf c.args.loose _ _ c.plot_beds.ensures.value c.shares-shares.ensures
           (sym c.leaves_bare.ensures ∙ c.if-leaves_bare.false) (sym c.overfills.ensures ∙ c.if-overfills.false)
           c.if-loose-remainder-gt1000000.false _ c.children.ensures;
       few = c.if-loose-remainder-gt1000000.false;

@@ -1,11 +1,11 @@
 -- Each refusal strikes in its turn, and what is granted is the split.
-use Rattle.std.proofs.Common.{◌≡◌, ◌+◌, Bool, true, Decides, ◌⊎◌, ap, inl, inr, arith}
+use Rattle.std.proofs.Common.{◌≡◌, ◌+◌, Bool, true, Decides, ◌⊎◌, inl, inr}
 use Rattle.std.proofs.lemmas.Result.{err_from_is_err_and}
 use Rattle.basin.specs.Basins.{basin_of, view}
 use Rattle.calls.proofs.Placing.{placing_refused, placed_in, located_in}
 use Rattle.refine.specs.Floods.{DryWindow}
 use Rattle.refine.proofs.Splitting.{split_refused, split_bottom, split_unbalanced, split_flooded, split_undivided, split_granted}
-use Rattle.refine.proofs.Spotted.{two_wide, between_in, dry_in}
+use Rattle.refine.proofs.Spotted.{dry_in}
 use Rattle.refine.proofs.split.split.Goals as goal
 use Rattle.refine.proofs.split.split.Goals.{else-spot-eq0-via-then-spot-eq0+else-not-stays_dry, else-spot-eq0-via-else-spot-eq0}
 
@@ -33,23 +33,16 @@ returns-then-not-all_between c =
     let b = basin_of c.args.head.now c.args.levels.now c.args.beds.now c.args.leaves.now in
     let e = c.in_ok-survey.ensures.0 in
     let l = located_in _ b _ _ _ e c.in_ok-spot.ensures in
-    let even = between_in _ b _ _ _ _ e c.all_between.ensures in
-    split_unbalanced b _ _ _ l c.if-spot-head.false _ _ c.window-block.ensures c.ring.ensures _ even c.if-not-all_between.true
+    split_unbalanced b _ _ _ l c.if-spot-head.false _ _ c.window-block.ensures c.ring.ensures _ c.all_between.ensures c.if-not-all_between.true
 
 pub returns-then-not-stays_dry : goal.returns-then-not-stays_dry
 returns-then-not-stays_dry c =
     let b = basin_of c.args.head.now c.args.levels.now c.args.beds.now c.args.leaves.now in
     let e = c.in_ok-survey.ensures.0 in
     let l = located_in _ b _ _ _ e c.in_ok-spot.ensures in
-    let even = between_in _ b _ _ _ _ e c.all_between.ensures in
     let dry = dry_in _ b _ _ _ e c.stays_dry.ensures in
-    split_flooded b _ _ _ l c.if-spot-head.false _ _ c.window-block.ensures c.ring.ensures _ even c.if-not-all_between.false
+    split_flooded b _ _ _ l c.if-spot-head.false _ _ c.window-block.ensures c.ring.ensures _ c.all_between.ensures c.if-not-all_between.false
     _ dry c.if-spot-eq0.true c.if-not-stays_dry.true
-
-pub divide-requires-clause-coarse : goal.divide-requires-clause-coarse
-divide-requires-clause-coarse c =
-    let l = c.in_ok-spot.ensures in
-    two_wide _ _ _ _ l (omega (arith, c.if-spot-head.false, l.level_is, ap (λ b. b.head.L) c.in_ok-survey.ensures.0))
 
 pub returns-in_err-division : goal.returns-in_err-division
 returns-in_err-division c =
@@ -57,28 +50,21 @@ returns-in_err-division c =
     let b = basin_of c.args.head.now c.args.levels.now c.args.beds.now c.args.leaves.now in
     let e = c.in_ok-survey.ensures.0 in
     let l = located_in _ b _ _ _ e c.in_ok-spot.ensures in
-    let even = between_in _ b _ _ _ _ e c.all_between.ensures in
     let seen : (c.in_ok-spot.spot.leaf.water ≡ 0 → ⊥) ⊎ ((f : Bool) × Decides f (DryWindow (view (basin_of c.args.head.now c.args.levels.now c.args.beds.now c.args.leaves.now)) (c.in_ok-spot.spot.level + 1) c.window-block.result) × (f ≡ true)) = elim c.else-spot-eq0.branch [
       | else-spot-eq0-via-then-spot-eq0+else-not-stays_dry w ↦ inr (w.stays_dry.result, dry_in _ b _ _ _ e w.stays_dry.ensures, w.if-not-stays_dry.false)
       | else-spot-eq0-via-else-spot-eq0 w ↦ inl w.if-spot-eq0.false
     ] in
-    rw (p.1, p.2) (split_undivided b _ _ _ l c.if-spot-head.false _ _ c.window-block.ensures c.ring.ensures _ even c.if-not-all_between.false
+    rw (p.1, p.2) (split_undivided b _ _ _ l c.if-spot-head.false _ _ c.window-block.ensures c.ring.ensures _ c.all_between.ensures c.if-not-all_between.false
     seen _ c.in_err-division.ensures.value)
-
-pub cut-requires-clause-coarse : goal.cut-requires-clause-coarse
-cut-requires-clause-coarse c =
-    let l = c.in_ok-spot.ensures in
-    two_wide _ _ _ _ l (omega (arith, c.if-spot-head.false, l.level_is, ap (λ b. b.head.L) c.in_ok-survey.ensures.0))
 
 pub returns : goal.returns
 returns c =
     let b = basin_of c.args.head.now c.args.levels.now c.args.beds.now c.args.leaves.now in
     let e = c.in_ok-survey.ensures.0 in
     let l = located_in _ b _ _ _ e c.in_ok-spot.ensures in
-    let even = between_in _ b _ _ _ _ e c.all_between.ensures in
     let seen : (c.in_ok-spot.spot.leaf.water ≡ 0 → ⊥) ⊎ ((f : Bool) × Decides f (DryWindow (view (basin_of c.args.head.now c.args.levels.now c.args.beds.now c.args.leaves.now)) (c.in_ok-spot.spot.level + 1) c.window-block.result) × (f ≡ true)) = elim c.else-spot-eq0.branch [
       | else-spot-eq0-via-then-spot-eq0+else-not-stays_dry w ↦ inr (w.stays_dry.result, dry_in _ b _ _ _ e w.stays_dry.ensures, w.if-not-stays_dry.false)
       | else-spot-eq0-via-else-spot-eq0 w ↦ inl w.if-spot-eq0.false
     ] in
-    split_granted b _ _ _ l c.if-spot-head.false _ _ c.window-block.ensures c.ring.ensures _ even c.if-not-all_between.false
+    split_granted b _ _ _ l c.if-spot-head.false _ _ c.window-block.ensures c.ring.ensures _ c.all_between.ensures c.if-not-all_between.false
     seen c.in_ok-division.division c.in_ok-division.ensures.value _ _ c.cut.ensures.levels c.cut.ensures.leaves

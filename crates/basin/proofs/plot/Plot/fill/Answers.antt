@@ -5,4 +5,4 @@ use Rattle.basin.proofs.plot.Plot.fill.Goals as goal
 pub fill_block-requires : goal.fill_block-requires
 fill_block-requires g c =
     let p = c.args.self in
-    omega (arith, mul-le-mul_right p.n p.inside.3, add-mul p.south p.side p.n)
+    omega (arith, mul-le-mul_right p.n p.inside.2, add-mul p.south p.side p.n)
