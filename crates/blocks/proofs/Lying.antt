@@ -10,7 +10,7 @@ use Rattle.runs.specs.Trees.{at_edge, beyond, parent, first, second}
 use Rattle.runs.proofs.Sides.{within_beyond, within_first, within_second, parent_within}
 use Rattle.runs.proofs.Sounds.{inside}
 use Rattle.blocks.specs.declared.block.Block.{Block as Address}
-use Rattle.blocks.specs.Places.{Lies, as_block}
+use Rattle.blocks.specs.Places.{Lies, NextTo, as_block}
 
 pub within : {L : ℕ} {a : Address} → Lies L a → Within L (as_block a)
 within l = record { deep = l.deep; east = l.east; north = l.north }
@@ -36,8 +36,9 @@ module _ {L : ℕ} {a : Address} (l : Lies L a) where
 
 -- the addresses made from one that lies in a basin of few levels
 module _ {L : ℕ} (a r : Address) (p : Dir) (few : L ≤ 6) (l : Lies L a) where
-  pub beyond_lies : at_edge p (as_block a) ≡ false → as_block r ≡ beyond p (as_block a) → Lies L r
-  beyond_lies h e = lies_at r (beyond p (as_block a)) few e (within_beyond L p (as_block a) (within l) h)
+  pub next_to : at_edge p (as_block a) ≡ false → as_block r ≡ beyond p (as_block a) → r.level ≡ a.level → NextTo L p a r
+  next_to h e k =
+      record { inside = h; next_is = e; level_is = k; lies = lies_at r (beyond p (as_block a)) few e (within_beyond L p (as_block a) (within l) h) }
 
   pub first_lies : a.level < L → as_block r ≡ first p (as_block a) → Lies L r
   first_lies h e = lies_at r (first p (as_block a)) few e (within_first L p (as_block a) (within l) h)

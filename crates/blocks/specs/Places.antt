@@ -1,14 +1,14 @@
 -- Blocks by their addresses on the table of levels.
-use Rattle.std.specs.Prelude.{ℕ, ◌+◌, ◌-◌, ◌*◌, ◌/◌, ◌%◌, ◌^◌, ◌<◌, ◌≤◌, cond, List, ◌≡◌, get_or}
+use Rattle.std.specs.Prelude.{ℕ, ◌+◌, ◌-◌, ◌*◌, ◌/◌, ◌%◌, ◌^◌, ◌<◌, ◌≤◌, false, cond, List, ◌≡◌, get_or}
 use Rattle.basin.specs.declared.dir.Dir.{Dir}
 use Rattle.basin.specs.declared.dir.Dir.TheVariants.{East, North, West, South}
+use Rattle.basin.specs.declared.sides.Sides.{Sides}
 use Rattle.basin.specs.Blocks.{Block, block, Within}
 use Rattle.runs.specs.Homes.{sort}
 use Rattle.runs.specs.Trees.{Kind, whole, Side, wall, one, two, at_edge, beyond, across}
 use Rattle.blocks.specs.declared.block.Block.{Block as Address}
 use Rattle.blocks.specs.declared.block.Edge.{Edge}
 use Rattle.blocks.specs.declared.block.Edge.TheVariants.{Wall, One, Two}
-use Rattle.blocks.specs.declared.block.Sides.{Sides}
 
 -- the block at an address
 abbrev pub as_block : Address → Block
@@ -26,6 +26,13 @@ pub record Lies (L : ℕ) (a : Address) : Type 0 where
   pub north : a.y < 2 ^ a.level
   pub x_small : a.x < 64
   pub y_small : a.y < 64
+
+-- the address of the block that lies next to this one in direction p, where the basin goes on there
+pub record NextTo (L : ℕ) (p : Dir) (a n : Address) : Type 0 where
+  pub inside : at_edge p (as_block a) ≡ false
+  pub next_is : as_block n ≡ beyond p (as_block a)
+  pub level_is : n.level ≡ a.level
+  pub lies : Lies L n
 
 -- the entry of a block's south-west square
 abbrev pub corner_entry : ℕ → Block → ℕ
@@ -47,7 +54,7 @@ abbrev pub LeafAt : ℕ → List ℕ → Block → Type 0
 LeafAt L levels c = Within L c × (kind_in L levels c ≡ whole)
 
 -- the four sides of a block
-pub record Around (L : ℕ) (levels : List ℕ) (c : Block) (s : Sides) : Type 0 where
+pub record Around (L : ℕ) (levels : List ℕ) (c : Block) (s : Sides Edge) : Type 0 where
   pub east : as_side s.east ≡ beside_in L levels East c
   pub north : as_side s.north ≡ beside_in L levels North c
   pub west : as_side s.west ≡ beside_in L levels West c

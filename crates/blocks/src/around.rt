@@ -2,10 +2,11 @@
 ghost use Rattle.std.specs.Prelude.{◌≡◌, ◌*◌, ◌^◌, ◌<◌, ◌≤◌, length, get_or};
 ghost use Rattle.blocks.specs.Places.{as_block, as_side, Lies, Shallow, beside_in, Around, home_at};
 
-use crate::block::{Block, Edge, Sides};
-use crate::places::{at_edge, beyond, corner, first, parent, second};
+use crate::block::{Block, Edge};
+use crate::places::{beyond, corner, first, parent, second};
 use basin::dir::Dir;
 use basin::head::Head;
+use basin::sides::Sides;
 use basin::size::side;
 
 /// The leaf that the square of entry `i` lies in.
@@ -31,10 +32,9 @@ pub fn edge(head: Head, levels: &[u8], block: Block, dir: Dir) -> Edge
     requires shallow { Shallow head.levels levels.now }
     ensures { as_side result ≡ beside_in head.levels levels.now dir (as_block block) }
 {
-    if at_edge(head, block, dir) {
+    let Some(next) = beyond(head, block, dir) else {
         return Edge::Wall;
-    }
-    let next = beyond(head, block, dir);
+    };
     let level = levels[corner(head, next)];
     if level < next.level {
         Edge::One(parent(head, next))
@@ -46,7 +46,7 @@ pub fn edge(head: Head, levels: &[u8], block: Block, dir: Dir) -> Edge
 }
 
 /// What the leaf at an address borders on in each direction.
-pub fn sides(head: Head, levels: &[u8], block: Block) -> Sides
+pub fn sides(head: Head, levels: &[u8], block: Block) -> Sides<Edge>
     requires lies { Lies head.levels block }
     requires full { length levels.now ≡ 2 ^ head.levels * 2 ^ head.levels }
     requires shallow { Shallow head.levels levels.now }

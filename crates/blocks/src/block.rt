@@ -15,12 +15,3 @@ pub enum Edge {
     One(Block),
     Two(Block, Block),
 }
-
-/// What a leaf borders on in each direction.
-#[derive(Clone, Copy)]
-pub struct Sides {
-    pub east: Edge,
-    pub north: Edge,
-    pub west: Edge,
-    pub south: Edge,
-}

@@ -1,7 +1,7 @@
 // Where blocks lie.
-ghost use Rattle.std.specs.Prelude.{◌≡◌, false, ◌*◌, ◌^◌, ◌<◌, ◌≤◌};
-ghost use Rattle.runs.specs.Trees.{at_edge as is_at_edge, beyond as the_next, parent as the_parent, first as the_first, second as the_second};
-ghost use Rattle.blocks.specs.Places.{as_block, Lies, corner_entry};
+ghost use Rattle.std.specs.Prelude.{◌≡◌, true, ◌*◌, ◌^◌, ◌<◌, ◌≤◌, MatchOption};
+ghost use Rattle.runs.specs.Trees.{at_edge as is_at_edge, parent as the_parent, first as the_first, second as the_second};
+ghost use Rattle.blocks.specs.Places.{as_block, Lies, NextTo, corner_entry};
 
 use crate::block::Block;
 use basin::dir::Dir;
@@ -32,34 +32,22 @@ pub fn at_edge(head: Head, block: Block, dir: Dir) -> bool
     }
 }
 
-/// The block of the same level that lies next in a direction.
-pub fn beyond(head: Head, block: Block, dir: Dir) -> Block
-    requires { (Lies head.levels block) × (is_at_edge dir (as_block block) ≡ false) }
-    ensures value { as_block result ≡ the_next dir (as_block block) }
-    ensures lies { Lies head.levels result }
+/// The block of the same level that lies next in a direction, if the basin goes on there.
+pub fn beyond(head: Head, block: Block, dir: Dir) -> Option<Block>
+    requires { Lies head.levels block }
+    ensures { MatchOption result (is_at_edge dir (as_block block) ≡ true) (NextTo head.levels dir block) }
 {
-    match dir {
-        Dir::East => Block {
-            level: block.level,
-            x: block.x + 1,
-            y: block.y,
-        },
-        Dir::North => Block {
-            level: block.level,
-            x: block.x,
-            y: block.y + 1,
-        },
-        Dir::West => Block {
-            level: block.level,
-            x: block.x - 1,
-            y: block.y,
-        },
-        Dir::South => Block {
-            level: block.level,
-            x: block.x,
-            y: block.y - 1,
-        },
+    if at_edge(head, block, dir) {
+        return None;
     }
+    let Block { level, x, y } = block;
+    let (x, y) = match dir {
+        Dir::East => (x + 1, y),
+        Dir::North => (x, y + 1),
+        Dir::West => (x - 1, y),
+        Dir::South => (x, y - 1),
+    };
+    Some(Block { level, x, y })
 }
 
 /// The block that this one is a quarter of.

@@ -1,5 +1,6 @@
 -- The sides of a leaf: all their faces together.
 use Rattle.std.specs.Prelude.{ℕ, ◌+◌, ◌≤◌, List, unsigned_abs}
+use Rattle.basin.specs.declared.sides.Sides.{Sides}
 use Rattle.basin.specs.declared.dir.Dir.{Dir}
 use Rattle.basin.specs.declared.dir.Dir.TheVariants.{East, North, West, South}
 use Rattle.basin.specs.declared.leaf.Leaf.{Leaf}
@@ -9,10 +10,8 @@ use Rattle.runs.specs.Trees.{Side, wall, one, two, eachℤ}
 use Rattle.blocks.specs.declared.block.Block.{Block as Address}
 use Rattle.blocks.specs.declared.block.Edge.{Edge}
 use Rattle.blocks.specs.declared.block.Edge.TheVariants.{Wall, One, Two}
-use Rattle.blocks.specs.declared.block.Sides.{Sides}
 use Rattle.blocks.specs.Places.{as_block, as_side, Lies}
 use Rattle.borders.specs.declared.border.Border.{Border}
-use Rattle.borders.specs.declared.border.Borders.{Borders}
 use Rattle.borders.specs.declared.pool.Pool.{Pool}
 use Rattle.borders.specs.Pools.{pool_in, Kept}
 use Rattle.borders.specs.Shares.{face_between, face_at_wall, wish_by, across_by, along_by}
@@ -47,7 +46,7 @@ border_of R T d L beds leaves p near s =
       along = eachℤ s (along_by R T d p (face_at_wall p near)) (λ b. along_by R T d p (face_between p near (pool_in L beds leaves b)));
     }
 
-abbrev pub borders_of : Rule → ℕ → ℕ → ℕ → List ℕ → List Leaf → Pool → Sides → Borders
+abbrev pub borders_of : Rule → ℕ → ℕ → ℕ → List ℕ → List Leaf → Pool → Sides Edge → Sides Border
 borders_of R T d L beds leaves near s =
     record {
       east = border_of R T d L beds leaves East near (as_side s.east);
@@ -63,7 +62,7 @@ pub record SmallBorder (b : Border) : Type 0 where
   pub across : unsigned_abs b.across ≤ 7680000000000
   pub along : unsigned_abs b.along ≤ 7680000000000
 
-pub record SmallBorders (b : Borders) : Type 0 where
+pub record SmallBorders (b : Sides Border) : Type 0 where
   pub east : SmallBorder b.east
   pub north : SmallBorder b.north
   pub west : SmallBorder b.west
@@ -73,5 +72,5 @@ pub record SmallBorders (b : Borders) : Type 0 where
 abbrev pub both : Border → ℕ
 both b = b.first + b.second
 
-abbrev pub wishes_in : Borders → ℕ
+abbrev pub wishes_in : Sides Border → ℕ
 wishes_in b = both b.east + both b.north + (both b.west + both b.south)

@@ -4,14 +4,15 @@ ghost use Rattle.blocks.specs.Places.{as_side};
 ghost use Rattle.borders.specs.Borders.{border_of, borders_of, LeavesOn, SmallBorder, SmallBorders};
 ghost use Rattle.borders.specs.Pools.{Kept};
 
-use crate::border::{Border, Borders};
+use crate::border::Border;
 use crate::pool::Pool;
 use crate::pools::pool;
 use crate::shares::{at_wall, between};
 use basin::dir::Dir;
 use basin::head::Head;
 use basin::leaf::Leaf;
-use blocks::block::{Edge, Sides};
+use basin::sides::Sides;
+use blocks::block::Edge;
 use faces::pace::Pace;
 use flow::rule::FlowRule;
 
@@ -72,9 +73,9 @@ pub fn borders<R: FlowRule>(
     beds: &[u16],
     leaves: &[Leaf],
     near: Pool,
-    sides: Sides,
+    sides: Sides<Edge>,
     pace: Pace,
-) -> Borders
+) -> Sides<Border>
     requires kept { Kept near }
     requires east { LeavesOn head.levels beds.now leaves.now sides.east }
     requires north { LeavesOn head.levels beds.now leaves.now sides.north }
@@ -85,28 +86,5 @@ pub fn borders<R: FlowRule>(
     ensures value { result ≡ borders_of (R.meaning rule.now) pace.time pace.width head.levels beds.now leaves.now near sides }
     ensures small { SmallBorders result }
 {
-    Borders {
-        east: border(rule, head, beds, leaves, near, sides.east, Dir::East, pace),
-        north: border(
-            rule,
-            head,
-            beds,
-            leaves,
-            near,
-            sides.north,
-            Dir::North,
-            pace,
-        ),
-        west: border(rule, head, beds, leaves, near, sides.west, Dir::West, pace),
-        south: border(
-            rule,
-            head,
-            beds,
-            leaves,
-            near,
-            sides.south,
-            Dir::South,
-            pace,
-        ),
-    }
+    sides.map(|edge, dir| border(rule, head, beds, leaves, near, edge, dir, pace))
 }

@@ -1,4 +1,4 @@
-// What the sides of a leaf do to it.
+// What a side of a leaf does to it.
 
 /// What one side of a leaf does to it in a step.
 #[derive(Clone, Copy)]
@@ -11,13 +11,4 @@ pub struct Border {
     pub across: i64,
     /// The momentum change along it.
     pub along: i64,
-}
-
-/// What the four sides of a leaf do to it.
-#[derive(Clone, Copy)]
-pub struct Borders {
-    pub east: Border,
-    pub north: Border,
-    pub west: Border,
-    pub south: Border,
 }

@@ -3,11 +3,12 @@ ghost use Rattle.std.specs.Prelude.{◌≡◌, ◌≤◌, ◌+ℤ◌, unsigned_a
 ghost use Rattle.runs.specs.Step.{drained as the_share};
 ghost use Rattle.borders.specs.Borders.{SmallBorders, wishes_in};
 
-use crate::border::Borders;
+use crate::border::Border;
 use basin::leaf::Leaf;
+use basin::sides::Sides;
 
 /// All the water that wishes to leave a leaf.
-pub fn wishes(borders: Borders) -> u64
+pub fn wishes(borders: Sides<Border>) -> u64
     requires { SmallBorders borders }
     ensures value { result ≡ wishes_in borders }
     ensures small { result ≤ 1228800000 }
@@ -33,7 +34,7 @@ pub fn drained(water: u32, all: u64, wish: u64) -> u32
 }
 
 /// A leaf's record with the discharges that its sides leave it, not yet clipped.
-pub fn driven(leaf: Leaf, borders: Borders) -> Leaf
+pub fn driven(leaf: Leaf, borders: Sides<Border>) -> Leaf
     requires small { SmallBorders borders }
     requires east { unsigned_abs leaf.east ≤ 1228800000000 }
     requires north { unsigned_abs leaf.north ≤ 1228800000000 }
@@ -41,7 +42,7 @@ pub fn driven(leaf: Leaf, borders: Borders) -> Leaf
     ensures east { result.east ≡ leaf.east +ℤ (borders.east.across +ℤ borders.west.across) +ℤ (borders.north.along +ℤ borders.south.along) }
     ensures north { result.north ≡ leaf.north +ℤ (borders.north.across +ℤ borders.south.across) +ℤ (borders.east.along +ℤ borders.west.along) }
 {
-    let Borders {
+    let Sides {
         east,
         north,
         west,

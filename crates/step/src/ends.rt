@@ -27,8 +27,8 @@ pub fn overfull(head: Head, levels: &[u8], work: &[Leaf]) -> bool
     requires { Shaped head.levels levels.now work.now }
     ensures { result ≡ some_square (2 ^ head.levels) (λ x y. overfull_in head.levels levels.now work.now (y * 2 ^ head.levels + x)) }
 {
-    for i in 0..levels.len() {
-        let s = side(head.levels - levels[i]);
+    for (i, level) in levels.iter().enumerate() {
+        let s = side(head.levels - *level);
         if !may_hold(s * s, entry_of(head, levels, work, i).water as u64) {
             return true;
         }
@@ -42,9 +42,9 @@ pub fn spread(head: Head, levels: &[u8], work: &[Leaf], leaves: &mut [Leaf])
     requires leaves { length leaves.old ≡ 2 ^ head.levels * 2 ^ head.levels }
     ensures { (i : ℕ) → i < 2 ^ head.levels * 2 ^ head.levels → slice_index_or leaves.new i dry ≡ finished_in head.levels levels.now work.now i }
 {
-    for i in 0..levels.len() {
-        let s = side(head.levels - levels[i]);
-        let entry = entry_of(head, levels, work, i);
-        leaves[i] = finish(s * s, entry.water, entry.east, entry.north);
+    for (i, level) in levels.iter().enumerate() {
+        let s = side(head.levels - *level);
+        let Leaf { water, east, north } = entry_of(head, levels, work, i);
+        leaves[i] = finish(s * s, water, east, north);
     }
 }

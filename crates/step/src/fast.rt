@@ -50,8 +50,8 @@ pub fn too_fast(head: Head, levels: &[u8], leaves: &[Leaf], time: u32) -> bool
     requires time { time ≤ 2000 }
     ensures { result ≡ some_square (2 ^ head.levels) (λ x y. fast_in head.levels head.width levels.now leaves.now time (y * 2 ^ head.levels + x)) }
 {
-    for i in 0..levels.len() {
-        let s = side(head.levels - levels[i]);
+    for (i, level) in levels.iter().enumerate() {
+        let s = side(head.levels - *level);
         if is_fast(head.width, s, leaves[i], time) {
             return true;
         }

@@ -13,18 +13,21 @@ use basin::leaf::Leaf;
 use basin::refusal::Refusal;
 use faces::pace::Pace;
 use flow::rule::FlowRule;
+use tables::survey::Survey;
 use tables::validity::validate;
+use visits::motion::Motion;
 use walks::walk::walk;
 
-/// Moves the water of a valid basin for one step, unless it is too long or a leaf would hold too much, and answers how much it moved.
-fn advance<R: FlowRule>(
+/// Moves the water of a valid basin for one step, unless it is too long or a leaf would hold too much, and answers how much it moved. Head and
+/// tables come one by one, since the records are read by the walk and written after it.
+fn advance<'x, R: FlowRule>(
     head: Head,
-    levels: &[u8],
-    beds: &[u16],
+    levels: &'x [u8],
+    beds: &'x [u16],
     leaves: &mut [Leaf],
     work: &mut [Leaf],
     pace: Pace,
-    rule: &R,
+    rule: &'x R,
 ) -> Result<u64, Refusal>
     requires valid { ValidBasin (basin_of head levels.now beds.now leaves.old) }
     requires width { pace.width ≡ head.width }
@@ -36,7 +39,13 @@ fn advance<R: FlowRule>(
         return Err(Refusal::StepTooLong);
     }
     work.copy_from_slice(leaves);
-    let moved = walk(rule, head, levels, beds, leaves, work, pace);
+    let survey = Survey {
+        head,
+        levels,
+        beds,
+        leaves,
+    };
+    let moved = walk(&Motion { survey, rule, pace }, work);
     if overfull(head, levels, work) {
         return Err(Refusal::LeafFull);
     }

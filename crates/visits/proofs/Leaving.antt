@@ -11,10 +11,10 @@ use Rattle.runs.specs.Rules.{Rule}
 use Rattle.runs.specs.Step.{drained, wish, face, wishes_of, leaving, out_of, momentum_across, momentum_along, new_east, new_north}
 use Rattle.runs.specs.Trees.{Tree, Side, wall, one, two, beside, each}
 use Rattle.blocks.specs.declared.block.Edge.{Edge}
-use Rattle.blocks.specs.declared.block.Sides.{Sides}
+use Rattle.basin.specs.declared.sides.Sides.{Sides}
+use Rattle.blocks.specs.declared.block.Edge.{Edge}
 use Rattle.blocks.specs.Places.{as_side, beside_in, Around}
 use Rattle.borders.specs.declared.border.Border.{Border}
-use Rattle.borders.specs.declared.border.Borders.{Borders}
 use Rattle.borders.specs.declared.pool.Pool.{Pool}
 use Rattle.borders.specs.Borders.{at_first, at_second, border_of, borders_of, both, wishes_in}
 use Rattle.borders.specs.Pools.{pool_in}
@@ -98,12 +98,12 @@ module _ (R : Rule) (T : ℕ) (b : Basin) where
   both_is : (p : Dir) (c : Block) → both (defined_border p c) ≡ each (beside t p c) 0 (λ a. wish R T t p (face t p c a))
   both_is p c = both_faces (beside t p c) (λ a. wish R T t p (face t p c a))
 
-  pub record Known (c : Block) (near : Pool) (s : Sides) (r : Borders) : Type 0 where
+  pub record Known (c : Block) (near : Pool) (s : Sides Edge) (r : Sides Border) : Type 0 where
     pub near_is : near ≡ pool_in L beds leaves c
     pub around : Around L levels c s
     pub borders_are : r ≡ borders_of R T d L beds leaves near s
 
-  module _ (c : Block) (near : Pool) (s : Sides) (r : Borders) (k : Known c near s r) where
+  module _ (c : Block) (near : Pool) (s : Sides Edge) (r : Sides Border) (k : Known c near s r) where
     west_is : r.west ≡ defined_border West c
     west_is = border_at West c near s.west r.west k.near_is k.around.west (ap (λ r. r.west) k.borders_are)
 
@@ -147,7 +147,7 @@ module _ (R : Rule) (T : ℕ) (b : Basin) where
         → x ≡ near.leaf.east +ℤ (r.east.across +ℤ r.west.across) +ℤ (r.north.along +ℤ r.south.along)
         → y ≡ near.leaf.north +ℤ (r.north.across +ℤ r.south.across) +ℤ (r.east.along +ℤ r.west.along)
         → ◌≡◌ {A = Departure}
-        (record { east = e; north = n; west = w; south = o; total = e.first + e.second + (n.first + n.second) + (w.first + w.second + (o.first + o.second)); new_east = x; new_north = y })
+        (record { outflows = record { east = e; north = n; west = w; south = o }; total = e.first + e.second + (n.first + n.second) + (w.first + w.second + (o.first + o.second)); new_east = x; new_north = y })
         (departure_from R T t c)
     unfolding departure_from
     departure_is Q w e o n x y q ew ee eo en ex ey =
@@ -168,5 +168,5 @@ module _ (R : Rule) (T : ℕ) (b : Basin) where
         same w e o n _ x y w' e' o' n' out (east_sum x ex) (north_sum y ey)
       where
         same : (w e o n : Outflow) (s : ℕ) (x y : ℤ) {w' e' o' n' : Outflow} {s' : ℕ} {x' y' : ℤ} → w ≡ w' → e ≡ e' → o ≡ o' → n ≡ n' → s ≡ s' → x ≡ x' → y ≡ y'
-            → ◌≡◌ {A = Departure} (record { east = e; north = n; west = w; south = o; total = s; new_east = x; new_north = y }) (record { east = e'; north = n'; west = w'; south = o'; total = s'; new_east = x'; new_north = y' })
+            → ◌≡◌ {A = Departure} (record { outflows = record { east = e; north = n; west = w; south = o }; total = s; new_east = x; new_north = y }) (record { outflows = record { east = e'; north = n'; west = w'; south = o' }; total = s'; new_east = x'; new_north = y' })
         same w e o n s x y p₁ p₂ p₃ p₄ p₅ p₆ p₇ = cc

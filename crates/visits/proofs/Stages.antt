@@ -12,7 +12,8 @@ use Rattle.runs.specs.Trees.{Tree, beside}
 use Rattle.runs.proofs.Sides.{side_leads}
 use Rattle.runs.proofs.Sounds.{sound}
 use Rattle.blocks.specs.declared.block.Edge.{Edge}
-use Rattle.blocks.specs.declared.block.Sides.{Sides}
+use Rattle.basin.specs.declared.sides.Sides.{Sides}
+use Rattle.blocks.specs.declared.block.Edge.{Edge}
 use Rattle.blocks.specs.Places.{as_side, beside_in, LeafAt, Around}
 use Rattle.visits.specs.declared.departure.Departure.{Departure}
 use Rattle.visits.specs.declared.departure.Outflow.{Outflow}
@@ -56,7 +57,7 @@ module _ (b : Basin) (ok : ValidBasin b) (m : Block) (lm : LeafAt b.head.L b.tab
       record { full = s.full; room = room_on (view b) ok.head.levels w s.full e (leads b ok p m e lm a) o h k s.room z }
 
   -- a leaf that borders on these sides, and what leaves it by a rule in a time
-  module _ (R : Rule) (T : ℕ) (s : Sides) (around : Around L levels m s) (q : Departure) (is : q ≡ departure_from R T t m) (small : SmallDeparture q) where
+  module _ (R : Rule) (T : ℕ) (s : Sides Edge) (around : Around L levels m s) (q : Departure) (is : q ≡ departure_from R T t m) (small : SmallDeparture q) where
     pub total_is : q.total ≡ out_of R T t m
     unfolding departure_from
     total_is = ap (λ q. q.total) is
@@ -85,41 +86,41 @@ module _ (b : Basin) (ok : ValidBasin b) (m : Block) (lm : LeafAt b.head.L b.tab
             room = below_taken (view b) w₀ full m lm q.total q.new_east q.new_north can_give 1400000000 room;
           })
 
-      pub east_fits : Sendable L w₁ s.east q.east
-      east_fits = sendable East w₁ 1400000000 s.east q.east stage_1 around.east small.east (omega arith)
+      pub east_fits : Sendable L w₁ s.east q.outflows.east
+      east_fits = sendable East w₁ 1400000000 s.east q.outflows.east stage_1 around.east small.east (omega arith)
 
       -- with what goes east
-      module _ (w₂ : List Leaf) (e₂ : Sent w₁ s.east q.east w₂) where
+      module _ (w₂ : List Leaf) (e₂ : Sent w₁ s.east q.outflows.east w₂) where
         stage_2 : Stage L levels w₂ 1707200000
-        stage_2 = stage_sent East w₁ w₂ 1400000000 s.east q.east stage_1 around.east small.east e₂
+        stage_2 = stage_sent East w₁ w₂ 1400000000 s.east q.outflows.east stage_1 around.east small.east e₂
 
-        pub north_fits : Sendable L w₂ s.north q.north
-        north_fits = sendable North w₂ 1707200000 s.north q.north stage_2 around.north small.north (omega arith)
+        pub north_fits : Sendable L w₂ s.north q.outflows.north
+        north_fits = sendable North w₂ 1707200000 s.north q.outflows.north stage_2 around.north small.north (omega arith)
 
         -- and north
-        module _ (w₃ : List Leaf) (e₃ : Sent w₂ s.north q.north w₃) where
+        module _ (w₃ : List Leaf) (e₃ : Sent w₂ s.north q.outflows.north w₃) where
           stage_3 : Stage L levels w₃ 2014400000
-          stage_3 = stage_sent North w₂ w₃ 1707200000 s.north q.north stage_2 around.north small.north e₃
+          stage_3 = stage_sent North w₂ w₃ 1707200000 s.north q.outflows.north stage_2 around.north small.north e₃
 
-          pub west_fits : Sendable L w₃ s.west q.west
-          west_fits = sendable West w₃ 2014400000 s.west q.west stage_3 around.west small.west (omega arith)
+          pub west_fits : Sendable L w₃ s.west q.outflows.west
+          west_fits = sendable West w₃ 2014400000 s.west q.outflows.west stage_3 around.west small.west (omega arith)
 
           -- and west
-          module _ (w₄ : List Leaf) (e₄ : Sent w₃ s.west q.west w₄) where
+          module _ (w₄ : List Leaf) (e₄ : Sent w₃ s.west q.outflows.west w₄) where
             stage_4 : Stage L levels w₄ 2321600000
-            stage_4 = stage_sent West w₃ w₄ 2014400000 s.west q.west stage_3 around.west small.west e₄
+            stage_4 = stage_sent West w₃ w₄ 2014400000 s.west q.outflows.west stage_3 around.west small.west e₄
 
-            pub south_fits : Sendable L w₄ s.south q.south
-            south_fits = sendable South w₄ 2321600000 s.south q.south stage_4 around.south small.south (omega arith)
+            pub south_fits : Sendable L w₄ s.south q.outflows.south
+            south_fits = sendable South w₄ 2321600000 s.south q.outflows.south stage_4 around.south small.south (omega arith)
 
             -- and south
-            pub visited : (w₅ : List Leaf) → Sent w₄ s.south q.south w₅ → AllVisited L levels R T t m w₀ w₅
+            pub visited : (w₅ : List Leaf) → Sent w₄ s.south q.outflows.south w₅ → AllVisited L levels R T t m w₀ w₅
             unfolding departure_from
             visited w₅ e₅ c lc =
                 visit_is (view b) R T m c lm lc w₀ w₁ w₂ w₃ w₄ w₅ q.total q.new_east q.new_north full
                 (λ p. side_leads t (sound (view b) ok.squares.quadtree) p m lm.0 lm.1)
                 (ap (λ q. q.total) is) (ap (λ q. q.new_east) is) (ap (λ q. q.new_north) is) can_give took
-                (on_side w₁ w₂ East s.east q.east (ap (λ q. q.east) is) around.east e₂)
-                (on_side w₂ w₃ North s.north q.north (ap (λ q. q.north) is) around.north e₃)
-                (on_side w₃ w₄ West s.west q.west (ap (λ q. q.west) is) around.west e₄)
-                (on_side w₄ w₅ South s.south q.south (ap (λ q. q.south) is) around.south e₅)
+                (on_side w₁ w₂ East s.east q.outflows.east (ap (λ q. q.outflows.east) is) around.east e₂)
+                (on_side w₂ w₃ North s.north q.outflows.north (ap (λ q. q.outflows.north) is) around.north e₃)
+                (on_side w₃ w₄ West s.west q.outflows.west (ap (λ q. q.outflows.west) is) around.west e₄)
+                (on_side w₄ w₅ South s.south q.outflows.south (ap (λ q. q.outflows.south) is) around.south e₅)

@@ -28,10 +28,12 @@ outflow_from R T t p c = record { first = at_first (beside t p c) (λ b. leaving
 unfoldable pub departure_from : Rule → ℕ → Tree → Block → Departure
 departure_from R T t c =
     record {
-      east = outflow_from R T t East c;
-      north = outflow_from R T t North c;
-      west = outflow_from R T t West c;
-      south = outflow_from R T t South c;
+      outflows = record {
+        east = outflow_from R T t East c;
+        north = outflow_from R T t North c;
+        west = outflow_from R T t West c;
+        south = outflow_from R T t South c;
+      };
       total = out_of R T t c;
       new_east = new_east R T t c;
       new_north = new_north R T t c;
@@ -43,10 +45,10 @@ pub record SmallOutflow (o : Outflow) : Type 0 where
   pub second : o.second ≤ 153600000
 
 pub record SmallDeparture (d : Departure) : Type 0 where
-  pub east : SmallOutflow d.east
-  pub north : SmallOutflow d.north
-  pub west : SmallOutflow d.west
-  pub south : SmallOutflow d.south
+  pub east : SmallOutflow d.outflows.east
+  pub north : SmallOutflow d.outflows.north
+  pub west : SmallOutflow d.outflows.west
+  pub south : SmallOutflow d.outflows.south
 
 -- the entries of an edge have room for what goes there
 abbrev pub RoomAt : ℕ → List Leaf → Address → ℕ → Type 0

@@ -1,4 +1,5 @@
 // What leaves a leaf.
+use basin::sides::Sides;
 
 /// The water that leaves a leaf across the first and the second face of a side, 0 where there is none.
 #[derive(Clone, Copy)]
@@ -10,10 +11,7 @@ pub struct Outflow {
 /// What leaves a leaf on each side and in all, and the discharges that the step leaves it, not yet clipped.
 #[derive(Clone, Copy)]
 pub struct Departure {
-    pub east: Outflow,
-    pub north: Outflow,
-    pub west: Outflow,
-    pub south: Outflow,
+    pub outflows: Sides<Outflow>,
     pub total: u32,
     pub new_east: i64,
     pub new_north: i64,

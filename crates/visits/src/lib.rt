@@ -2,6 +2,7 @@
 #![tactic(auto)]
 
 pub mod departure;
+pub mod motion;
 pub mod part;
 pub mod send;
 pub mod visit;

@@ -1,19 +1,20 @@
 -- The leaf and those beside it keep their limits, and what leaves is what the step says.
-use Rattle.std.proofs.Common.{nat_abs, ap, ◌∙◌, arith, w64, SFits, rules}
+use Rattle.std.proofs.Common.{◌≡◌, nat_abs, ap, ◌∙◌, arith, w64, SFits, rules}
 use Rattle.basin.specs.declared.dir.Dir.TheVariants.{East, North, West, South}
-use Rattle.basin.specs.Basins.{basin_of}
+use Rattle.tables.specs.Surveys.{surveyed}
 use Rattle.blocks.specs.Places.{as_block}
 use Rattle.borders.specs.Borders.{borders_of}
 use Rattle.flow.specs.Whole.{back}
+use Rattle.visits.specs.Departures.{outflow_by, SmallOutflow}
 use Rattle.visits.proofs.Leaving.{departure_is}
 use Rattle.visits.proofs.Limits.{kept, most_discharge, leaves_beside}
 use Rattle.visits.proofs.part.departure_of.Goals as goal
 
 pub borders-around-requires : goal.borders-around-requires
 borders-around-requires g c =
-    let b = basin_of c.args.head c.args.levels.now c.args.beds.now c.args.leaves.now in
+    let b = surveyed c.args.motion.now.survey in
     let m = as_block c.args.block in
-    let ok = c.requires.valid in
+    let ok = c.args.motion.now.survey.valid in
     let s = c.args.sides in
     record {
       kept = rw c.pool-near.ensures (kept b ok m c.requires.leaf);
@@ -27,27 +28,37 @@ borders-around-requires g c =
 
 pub driven-after-requires : goal.driven-after-requires
 driven-after-requires g c =
-    let b = basin_of c.args.head c.args.levels.now c.args.beds.now c.args.leaves.now in
-    let k = most_discharge b c.requires.valid (as_block c.args.block) c.requires.leaf in
+    let b = surveyed c.args.motion.now.survey in
+    let k = most_discharge b c.args.motion.now.survey.valid (as_block c.args.block) c.requires.leaf in
     let e = ap (λ n. nat_abs n.leaf.east) c.pool-near.ensures in
     let n = ap (λ n. nat_abs n.leaf.north) c.pool-near.ensures in
     record { small = c.borders-around.ensures.small; east = omega (arith, e, k.0); north = omega (arith, n, k.1) }
 
 pub returns : goal.returns
 returns g c =
-    let R = g.R.FlowRule.meaning c.args.rule.now in
-    let T = c.args.pace.time in
-    let b = basin_of c.args.head c.args.levels.now c.args.beds.now c.args.leaves.now in
+    let R = g.R.FlowRule.meaning c.args.motion.now.rule.now in
+    let T = c.args.motion.now.pace.time in
+    let b = surveyed c.args.motion.now.survey in
     let near = c.pool-near.result in
     let s = c.args.sides in
     let fx : SFits w64 c.driven-after.result.east = search rules in
     let fy : SFits w64 c.driven-after.result.north = search rules in
-    let are = c.borders-around.ensures.value ∙ ap (λ d. borders_of R T d b.head.L b.tables.beds b.tables.leaves near s) c.requires.width in
+    let are = c.borders-around.ensures.value ∙ ap (λ d. borders_of R T d b.head.L b.tables.beds b.tables.leaves near s) c.args.motion.now.width in
+    let of = c.map-outflows.ensures in
+    let east : c.map-outflows.result.east ≡ outflow_by c.pool-near.result.leaf.water c.wishes-all.result c.borders-around.result.east = search (rules, of.east) in
+    let small_east : SmallOutflow c.map-outflows.result.east = search (rules, of.east) in
+    let north : c.map-outflows.result.north ≡ outflow_by c.pool-near.result.leaf.water c.wishes-all.result c.borders-around.result.north = search (rules, of.north) in
+    let small_north : SmallOutflow c.map-outflows.result.north = search (rules, of.north) in
+    let west : c.map-outflows.result.west ≡ outflow_by c.pool-near.result.leaf.water c.wishes-all.result c.borders-around.result.west = search (rules, of.west) in
+    let small_west : SmallOutflow c.map-outflows.result.west = search (rules, of.west) in
+    let south : c.map-outflows.result.south ≡ outflow_by c.pool-near.result.leaf.water c.wishes-all.result c.borders-around.result.south = search (rules, of.south) in
+    let small_south : SmallOutflow c.map-outflows.result.south = search (rules, of.south) in
+    let out = c.map-outflows.result in
     record {
       value = departure_is R T b (as_block c.args.block) near s c.borders-around.result
           (record { near_is = c.pool-near.ensures; around = c.requires.around; borders_are = are })
-          c.wishes-all.result c.outflow-west.result c.outflow-east.result c.outflow-south.result c.outflow-north.result _ _
-          c.wishes-all.ensures.value c.outflow-west.ensures.value c.outflow-east.ensures.value c.outflow-south.ensures.value c.outflow-north.ensures.value
+          c.wishes-all.result out.west out.east out.south out.north _ _
+          c.wishes-all.ensures.value west east south north
           (back _ _ fx c.driven-after.ensures.east) (back _ _ fy c.driven-after.ensures.north);
-      small = record { east = c.outflow-east.ensures.small; north = c.outflow-north.ensures.small; west = c.outflow-west.ensures.small; south = c.outflow-south.ensures.small };
+      small = record { east = small_east; north = small_north; west = small_west; south = small_south };
     }

@@ -1,7 +1,8 @@
 -- Each square's leaf is found, visited at its corner, and passed over elsewhere.
 use Rattle.std.proofs.Common.{◌≡◌, ℕ, ◌+◌, ◌*◌, ◌^◌, ◌<◌, List, length, sym, ap, ◌∙◌, subst, arith, rules}
 use Rattle.basin.specs.declared.leaf.Leaf.{Leaf}
-use Rattle.basin.specs.Basins.{basin_of, view}
+use Rattle.basin.specs.Basins.{view}
+use Rattle.tables.specs.Surveys.{surveyed}
 use Rattle.basin.specs.Blocks.{Block}
 use Rattle.runs.specs.Homes.{tree}
 use Rattle.runs.specs.Step.{out_of}
@@ -16,45 +17,43 @@ use Rattle.walks.proofs.walk.walk.Goals.{then-corner-i, else-corner-i}
 
 pub loop-i-init : goal.loop-i-init
 loop-i-init g c =
-    let b = basin_of c.args.head c.args.levels.now c.args.beds.now c.args.leaves.now in
-    let R = g.R.FlowRule.meaning c.args.rule.now in
-    let ok = c.requires.valid in (
-      ap length c.requires.start ∙ ok.full.leaves,
-      walked_start b ok R c.args.pace.time c.args.work.now c.requires.start,
-      sum_start b.head.L c.args.levels.now _,
+    let b = surveyed c.args.motion.now.survey in
+    let R = g.R.FlowRule.meaning c.args.motion.now.rule.now in
+    let ok = c.args.motion.now.survey.valid in (
+      ap length c.requires ∙ ok.full.leaves,
+      walked_start b ok R c.args.motion.now.pace.time c.args.work.now c.requires,
+      sum_start b.head.L c.args.motion.now.survey.levels.now _,
       omega arith,
     )
 
 pub home-block-requires : goal.home-block-requires
 home-block-requires g c =
-    let b = basin_of c.args.head c.args.levels.now c.args.beds.now c.args.leaves.now in
-    let ok = c.requires.valid in
+    let b = surveyed c.args.motion.now.survey in
+    let ok = c.args.motion.now.survey.valid in
     let inside : c.loop-i.i < 2 ^ b.head.L * 2 ^ b.head.L = omega (arith, c.squares-i-end.ensures.value) in
     record { within = omega (arith, ok.full.levels); shallow = shallow b ok c.loop-i.i inside }
 
 pub corner-requires : goal.corner-requires
 corner-requires g c =
-    let b = basin_of c.args.head c.args.levels.now c.args.beds.now c.args.leaves.now in
-    let ok = c.requires.valid in
+    let b = surveyed c.args.motion.now.survey in
+    let ok = c.args.motion.now.survey.valid in
     let inside : c.loop-i.i < 2 ^ b.head.L * 2 ^ b.head.L = omega (arith, c.squares-i-end.ensures.value) in
     lies_at c.home-block.result _ ok.head.levels c.home-block.ensures (leaf_home b ok c.loop-i.i inside).0
 
 pub visit-requires : goal.visit-requires
 visit-requires g c =
-    let b = basin_of c.args.head c.args.levels.now c.args.beds.now c.args.leaves.now in
-    let R = g.R.FlowRule.meaning c.args.rule.now in
-    let T = c.args.pace.time in
+    let b = surveyed c.args.motion.now.survey in
+    let R = g.R.FlowRule.meaning c.args.motion.now.rule.now in
+    let T = c.args.motion.now.pace.time in
     let L = b.head.L in
     let i = c.loop-i.i in
-    let ok = c.requires.valid in
+    let ok = c.args.motion.now.survey.valid in
     let inside : i < 2 ^ L * 2 ^ L = omega (arith, c.squares-i-end.ensures.value) in
     let leaf = leaf_home b ok i inside in
-    let P : Block → Type 0 = λ q. LeafAt L c.args.levels.now q in
-    let here : LeafAt L c.args.levels.now (as_block c.home-block.result) = subst P (sym c.home-block.ensures) leaf in
+    let P : Block → Type 0 = λ q. LeafAt L c.args.motion.now.survey.levels.now q in
+    let here : LeafAt L c.args.motion.now.survey.levels.now (as_block c.home-block.result) = subst P (sym c.home-block.ensures) leaf in
     let at : corner_entry L (as_block c.home-block.result) ≡ i = sym c.corner.ensures.value ∙ c.if-corner-i.true in
     record {
-      valid = ok;
-      width = c.requires.width;
       lies = lies_at c.home-block.result _ ok.head.levels c.home-block.ensures leaf.0;
       leaf = here;
       full = c.loop-i.invariant.0;
@@ -64,13 +63,13 @@ visit-requires g c =
 
 pub loop-i-preserved : goal.loop-i-preserved
 loop-i-preserved g c =
-    let b = basin_of c.args.head c.args.levels.now c.args.beds.now c.args.leaves.now in
-    let R = g.R.FlowRule.meaning c.args.rule.now in
-    let T = c.args.pace.time in
+    let b = surveyed c.args.motion.now.survey in
+    let R = g.R.FlowRule.meaning c.args.motion.now.rule.now in
+    let T = c.args.motion.now.pace.time in
     let L = b.head.L in
-    let levels = c.args.levels.now in
+    let levels = c.args.motion.now.survey.levels.now in
     let i = c.loop-i.i in
-    let ok = c.requires.valid in
+    let ok = c.args.motion.now.survey.valid in
     let inside : i < 2 ^ L * 2 ^ L = omega (arith, c.squares-i-end.ensures.value) in
     let P : Block → Type 0 = λ q. LeafAt L levels q in
     let here : LeafAt L levels (as_block c.home-block.result) = subst P (sym c.home-block.ensures) (leaf_home b ok i inside) in
@@ -98,14 +97,14 @@ loop-i-preserved g c =
 
 pub returns : goal.returns
 returns g c =
-    let b = basin_of c.args.head c.args.levels.now c.args.beds.now c.args.leaves.now in
-    let R = g.R.FlowRule.meaning c.args.rule.now in
-    let T = c.args.pace.time in
+    let b = surveyed c.args.motion.now.survey in
+    let R = g.R.FlowRule.meaning c.args.motion.now.rule.now in
+    let T = c.args.motion.now.pace.time in
     let L = b.head.L in
     let inv = c.loop-i.invariant in
     let end : c.loop-i.i ≡ 2 ^ L * 2 ^ L = omega (arith, c.squares-i-end.ensures.value) in
     let Q : ℕ → Type 0 = λ i. Walked R T b i c.loop-i.work in
     record {
-      moved = moved_is b c.requires.valid R T c.loop-i.moved (inv.2 ∙ ap (leaf_sum L c.args.levels.now (out_of R T (tree (view b)))) end);
+      moved = moved_is b c.args.motion.now.survey.valid R T c.loop-i.moved (inv.2 ∙ ap (leaf_sum L c.args.motion.now.survey.levels.now (out_of R T (tree (view b)))) end);
       walked = subst Q end inv.1;
     }
