@@ -19,9 +19,9 @@ impl FlowRule for Central {
 
     const PUSH_CAP: u64 = 25_000_000_000_000;
 
-    ghost flow_cap = { 1200000000 };
+    ghost FLOW_CAP = { 1200000000 };
 
-    ghost push_cap = { 25000000000000 };
+    ghost PUSH_CAP = { 25000000000000 };
 
     ghost meaning = { λ _. central_of };
 
@@ -34,14 +34,6 @@ impl FlowRule for Central {
     ghost along = { λ r. central_mirrors_along };
 
     ghost caps = { λ r. central_capped };
-
-    fn largest_flow(&self) -> u64 {
-        Self::FLOW_CAP
-    }
-
-    fn largest_push(&self) -> u64 {
-        Self::PUSH_CAP
-    }
 
     fn between(&self, one: Side, two: Side) -> Flux {
         let a = ahead(one, two);

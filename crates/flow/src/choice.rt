@@ -17,9 +17,9 @@ impl FlowRule for Rules {
 
     const PUSH_CAP: u64 = 25_000_000_000_000;
 
-    ghost flow_cap = { 1200000000 };
+    ghost FLOW_CAP = { 1200000000 };
 
-    ghost push_cap = { 25000000000000 };
+    ghost PUSH_CAP = { 25000000000000 };
 
     ghost meaning = { chosen };
 
@@ -40,14 +40,6 @@ impl FlowRule for Rules {
             drift = λ a b p q. omega (arith, pond_capped.drift a b p q);
           }
     ] };
-
-    fn largest_flow(&self) -> u64 {
-        Self::FLOW_CAP
-    }
-
-    fn largest_push(&self) -> u64 {
-        Self::PUSH_CAP
-    }
 
     fn between(&self, one: Side, two: Side) -> Flux {
         match *self {

@@ -18,9 +18,9 @@ impl FlowRule for Pond {
 
     const PUSH_CAP: u64 = 4_414_500_000_000;
 
-    ghost flow_cap = { 514650000 };
+    ghost FLOW_CAP = { 514650000 };
 
-    ghost push_cap = { 4414500000000 };
+    ghost PUSH_CAP = { 4414500000000 };
 
     ghost meaning = { λ _. pond_of };
 
@@ -33,14 +33,6 @@ impl FlowRule for Pond {
     ghost along = { λ r. pond_mirrors_along };
 
     ghost caps = { λ r. pond_capped };
-
-    fn largest_flow(&self) -> u64 {
-        Self::FLOW_CAP
-    }
-
-    fn largest_push(&self) -> u64 {
-        Self::PUSH_CAP
-    }
 
     fn between(&self, one: Side, two: Side) -> Flux {
         Flux {

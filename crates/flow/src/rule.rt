@@ -15,20 +15,26 @@ pub trait FlowRule {
     const PUSH_CAP: u64;
 
     // The numbers that the two constants are.
-    ghost flow_cap: { ℕ };
+    ghost FLOW_CAP: { ℕ };
 
-    ghost push_cap: { ℕ };
+    ghost PUSH_CAP: { ℕ };
 
     // What a value of the rule answers at any two sides.
     ghost meaning: { Self → Rule };
 
     /// The flow cap.
     fn largest_flow(&self) -> u64
-        ensures { result ≡ flow_cap };
+        ensures { result ≡ FLOW_CAP }
+    {
+        Self::FLOW_CAP
+    }
 
     /// The push cap.
     fn largest_push(&self) -> u64
-        ensures { result ≡ push_cap };
+        ensures { result ≡ PUSH_CAP }
+    {
+        Self::PUSH_CAP
+    }
 
     /// What passes from side 1 to side 2, which lies east or north of it.
     fn between(&self, one: Side, two: Side) -> Flux
@@ -37,7 +43,7 @@ pub trait FlowRule {
         ensures drift { result.drift ≡ (meaning self.now).drift (state_of one) (state_of two) };
 
     // The caps of every rule are bounded, and every value of a rule keeps the four laws.
-    ghost low: { LowCaps flow_cap push_cap };
+    ghost low: { LowCaps FLOW_CAP PUSH_CAP };
 
     ghost rest: { (r : Self) → Rests (meaning r) };
 
@@ -45,5 +51,5 @@ pub trait FlowRule {
 
     ghost along: { (r : Self) → MirrorsAlong (meaning r) };
 
-    ghost caps: { (r : Self) → Capped flow_cap push_cap (meaning r) };
+    ghost caps: { (r : Self) → Capped FLOW_CAP PUSH_CAP (meaning r) };
 }
