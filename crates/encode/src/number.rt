@@ -3,8 +3,7 @@ ghost use Rattle.std.specs.Prelude.{◌≡◌, ◌+◌, ◌^◌, ◌<◌, ◌≤
 ghost use Rattle.std.proofs.lemmas.List.Edits.{sets};
 ghost use Rattle.numbers.specs.Numbers.{number, coded};
 
-/// What a byte adds to its group when another group follows.
-const MORE: u64 = 128;
+use numbers::number::MORE;
 
 /// The number that stands for a signed one.
 pub fn to_coded(signed: i64) -> u64

@@ -19,7 +19,15 @@ impl NumberFault {
     pub fn report(self) -> Report
         ensures { result ≡ number_report self }
     {
-        match self {
+        Report::from(self)
+    }
+}
+
+impl From<NumberFault> for Report {
+    ghost from_gives = { λ f r. r ≡ number_report f };
+
+    fn from(fault: NumberFault) -> Report {
+        match fault {
             NumberFault::Ended(byte) => Report::new(Refusal::FileEnded, byte, Layer::Numbers),
             NumberFault::Malformed(byte) => Report::new(Refusal::NumberForm, byte, Layer::Numbers),
         }

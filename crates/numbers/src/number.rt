@@ -6,32 +6,32 @@ ghost use Rattle.numbers.specs.Laws.{WrittenIsRead, ReadWasWritten, SignedIsCode
 use crate::fault::NumberFault;
 
 /// The most groups that a number has.
-const GROUPS: u8 = 6;
+const GROUPS: usize = 6;
 
-/// What a byte adds to its group when another group follows.
-const MORE: u8 = 128;
+/// What a byte adds to its group when another group follows, and how many times what the group before it weighs a group weighs.
+pub const MORE: u64 = 128;
 
 /// The number that begins at `at`, and the place after it.
 pub fn read_number(bytes: &[u8], at: usize) -> Result<(u64, usize), NumberFault>
     ensures { result ≡ number_at bytes.now at }
 {
+    let rest = bytes.get(at..).unwrap_or(&[]);
+    let groups = &rest[..rest.len().min(GROUPS)];
     let mut value: u64 = 0;
     let mut unit: u64 = 1;
-    let mut here = at;
-    for k in 0..GROUPS {
-        if here >= bytes.len() {
-            return Err(NumberFault::Ended(at));
-        }
-        let byte = bytes[here];
+    for (k, byte) in groups.iter().enumerate() {
+        let byte = u64::from(*byte);
         if byte < MORE {
             if byte == 0 && k > 0 {
                 return Err(NumberFault::Malformed(at));
             }
-            return Ok((value + unit * byte as u64, here + 1));
+            return Ok((value + unit * byte, at + k + 1));
         }
-        value += unit * (byte - MORE) as u64;
-        unit *= 128;
-        here += 1;
+        value += unit * (byte - MORE);
+        unit *= MORE;
+    }
+    if groups.len() < GROUPS {
+        return Err(NumberFault::Ended(at));
     }
     Err(NumberFault::Malformed(at))
 }
@@ -65,10 +65,7 @@ mod tests {
 
     // Whether the bytes begin with this number and hold nothing else.
     fn is_number(bytes: &[u8], value: u64) -> bool {
-        match read_number(bytes, 0) {
-            Ok((read, end)) => read == value && end == bytes.len(),
-            Err(_) => false,
-        }
+        read_number(bytes, 0) == Ok((value, bytes.len()))
     }
 
     #[test]
