@@ -26,8 +26,16 @@ impl FileFault {
     pub fn report(self) -> Report
         ensures { result ≡ file_report self }
     {
-        match self {
-            FileFault::Tree(fault) => fault.report(),
+        Report::from(self)
+    }
+}
+
+impl From<FileFault> for Report {
+    ghost from_gives = { λ f r. r ≡ file_report f };
+
+    fn from(fault: FileFault) -> Report {
+        match fault {
+            FileFault::Tree(fault) => Report::from(fault),
             FileFault::Range(byte) => Report::new(Refusal::FileRange, byte, Layer::File),
             FileFault::Trailing(byte) => Report::new(Refusal::TrailingBytes, byte, Layer::File),
             FileFault::TableLength(byte) => Report::new(Refusal::TableLength, byte, Layer::File),

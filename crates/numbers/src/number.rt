@@ -1,6 +1,6 @@
 // Numbers in groups of seven bits, the lowest group first.
 ghost use Rattle.std.specs.Prelude.{◌≡◌};
-ghost use Rattle.numbers.specs.Numbers.{number_at, signed, signed_at};
+ghost use Rattle.numbers.specs.Numbers.{number_at, signed};
 ghost use Rattle.numbers.specs.Laws.{WrittenIsRead, ReadWasWritten, SignedIsCoded};
 
 use crate::fault::NumberFault;
@@ -37,19 +37,11 @@ pub fn read_number(bytes: &[u8], at: usize) -> Result<(u64, usize), NumberFault>
 }
 
 /// The signed number that a number of the file stands for: even ones for 0, 1, 2 .., odd ones for -1, -2 ..
-fn to_signed(coded: u64) -> i64
+pub fn to_signed(coded: u64) -> i64
     ensures { result ≡ signed coded }
 {
     let half = (coded / 2) as i64;
     if coded % 2 == 0 { half } else { -1 - half }
-}
-
-/// The signed number that begins at `at`, and the place after it.
-pub fn read_signed(bytes: &[u8], at: usize) -> Result<(i64, usize), NumberFault>
-    ensures { result ≡ signed_at bytes.now at }
-{
-    let (coded, next) = read_number(bytes, at)?;
-    Ok((to_signed(coded), next))
 }
 
 /// Numbers have one form: what is written is read back, what is read was written so, and signed numbers stand for one another's codes.
@@ -76,13 +68,12 @@ mod tests {
             "the largest"
         );
         assert!(rt;
-            read_number(&[255; 7], 0).err() == Some(NumberFault::Malformed(0)),
+            read_number(&[255; 7], 0) == Err(NumberFault::Malformed(0)),
             "too long"
         );
         assert!(rt;
-            read_number(&[0x80, 0], 0).err() == Some(NumberFault::Malformed(0)),
+            read_number(&[0x80, 0], 0) == Err(NumberFault::Malformed(0)),
             "not shortest"
         );
-        assert!(rt; read_signed(&[5], 0).ok() == Some((-3, 1)), "minus three");
     }
 }
