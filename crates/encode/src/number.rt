@@ -1,6 +1,5 @@
-// Numbers in groups of seven bits, measured and written.
-ghost use Rattle.std.specs.Prelude.{◌≡◌, ◌+◌, ◌^◌, ◌<◌, ◌≤◌, length};
-ghost use Rattle.std.proofs.lemmas.List.Edits.{sets};
+// Numbers in groups of seven bits, measured.
+ghost use Rattle.std.specs.Prelude.{◌≡◌, ◌^◌, ◌<◌, ◌≤◌, length};
 ghost use Rattle.numbers.specs.Numbers.{number, coded};
 
 use numbers::number::MORE;
@@ -29,22 +28,4 @@ pub fn number_length(value: u64) -> usize
         length += 1;
     }
     length
-}
-
-/// Writes a number from entry `at` on, and answers the place after it.
-pub fn put_number(out: &mut [u8], at: usize, value: u64) -> usize
-    requires small { value < 2 ^ 42 }
-    requires room { at + length (number value) ≤ length out.old }
-    ensures place { result ≡ at + length (number value) }
-    ensures bytes { out.new ≡ sets out.old at (number value) }
-{
-    let mut rest = value;
-    let mut here = at;
-    while rest >= MORE {
-        out[here] = (rest % MORE + MORE) as u8;
-        rest /= MORE;
-        here += 1;
-    }
-    out[here] = rest as u8;
-    here + 1
 }

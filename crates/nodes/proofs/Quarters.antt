@@ -53,7 +53,7 @@ leaf_is s bs cs e at mark next w v r n z ew ev l =
     node_leaf s.height bs.now at mark next w r n z ew (coe 0 1 (i. r ≡ leaf_at (e i).now next (w * same i)) l)
 
 -- four quarters in turn
-pub four_left : (s : Spot) (q : Quarters) → Quartered s q → (bs : List ℕ) (at a b c d e : ℕ) (x : Result (Unit {0}) TreeFault)
+pub four_left : (s : Spot) (q : Quarters Spot) → Quartered s q → (bs : List ℕ) (at a b c d e : ℕ) (x : Result (Unit {0}) TreeFault)
     (l₀ l₁ l₂ l₃ l₄ : List ℕ) (r₀ r₁ r₂ r₃ r₄ : List Leaf)
     → node_at s.height bs at ≡ quarters_at (s.height - 1) bs a
     → Left s.levels (s.height - 1) (corner_of s) bs a (Ok tt) b l₀ l₁ r₀ r₁

@@ -19,7 +19,7 @@ pub record Quarter (s : Spot) (east north : ℕ) (q : Spot) : Type 0 where
   pub y : q.y ≡ s.y + north
 
 -- the four quarters of s
-pub record Quartered (s : Spot) (q : Quarters) : Type 0 where
+pub record Quartered (s : Spot) (q : Quarters Spot) : Type 0 where
   pub sw : Quarter s 0 0 q.sw
   pub se : Quarter s (2 ^ q.sw.height) 0 q.se
   pub nw : Quarter s 0 (2 ^ q.sw.height) q.nw

@@ -21,13 +21,13 @@ pub struct Spot {
     ghost north: { y + 2 ^ height ≤ 2 ^ levels },
 }
 
-/// Where the four quarters of a node lie.
+/// What there is for each of a node's four quarters: south-west, south-east, north-west and north-east.
 #[derive(Clone, Copy)]
-pub struct Quarters {
-    pub sw: Spot,
-    pub se: Spot,
-    pub nw: Spot,
-    pub ne: Spot,
+pub struct Quarters<T> {
+    pub sw: T,
+    pub se: T,
+    pub nw: T,
+    pub ne: T,
 }
 
 impl Spot {
@@ -86,7 +86,7 @@ impl Spot {
     }
 
     /// Where its quarters lie, if it has levels below it.
-    pub fn quarters(self) -> Option<Quarters>
+    pub fn quarters(self) -> Option<Quarters<Spot>>
         ensures { MatchOption result (self.height ≡ 0) (λ q. Quartered self q) }
     {
         let half = side(self.height.checked_sub(1)?);

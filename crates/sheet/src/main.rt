@@ -1,34 +1,26 @@
 // The sheet of a basin file: its head, and a line for each leaf.
 #![tactic(auto)]
 
-ghost use Rattle.basin.specs.Basins.{basin_of, ValidBasin};
-
 mod line;
 mod list;
 
 use crate::list::list;
-use kaftanore::{FileFault, Head, Leaf, read, table_length};
+use kaftanore::{FileFault, Leaf, read, table_length};
 use std::io;
 use std::io::Read;
+use tables::survey::Survey;
 
 /// The bytes of the input that are looked at: more than the file of any basin has.
 const MOST_BYTES: u64 = 72_000;
 
 /// Prints the head and a line for each leaf.
-fn print_sheet(
-    rt: &HostRuntime,
-    head: Head,
-    levels: &[u8],
-    beds: &[u16],
-    leaves: &[Leaf],
-) -> io::Result<()>
-    requires { ValidBasin (basin_of head levels.now beds.now leaves.now) }
-{
+fn print_sheet(rt: &HostRuntime, survey: &Survey<'_>) -> io::Result<()> {
+    let head = survey.head;
     let side = head.side();
     let width = head.width;
     let loose = head.loose;
     println!(rt; "{side} {width} {loose}")?;
-    let lines = list(rt.alloc(), head, levels, beds, leaves)?;
+    let lines = list(rt.alloc(), survey)?;
     for line in &lines {
         println!(rt; "{line}")?;
     }
@@ -53,7 +45,15 @@ fn show(
     leaves: &mut [Leaf],
 ) -> io::Result<()> {
     match read(bytes, levels, beds, leaves) {
-        Ok(head) => print_sheet(rt, head, levels, beds, leaves),
+        Ok(head) => print_sheet(
+            rt,
+            &Survey {
+                head,
+                levels,
+                beds,
+                leaves,
+            },
+        ),
         Err(fault) => print_refusal(rt, fault),
     }
 }
