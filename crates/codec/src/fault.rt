@@ -23,6 +23,7 @@ pub enum FileFault {
 
 impl FileFault {
     /// The refusal, byte and layer of this fault.
+    // `From` under a name, which programs call with no type to write.
     pub fn report(self) -> Report
         ensures { result ≡ file_report self }
     {

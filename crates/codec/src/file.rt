@@ -19,6 +19,7 @@ use tables::balance::is_balanced;
 const MOST: usize = 4096;
 
 /// Reads the tree and the beds of a basin from the next byte to the end of the file, into tables with an entry for each of its squares.
+// Tables one by one: `read_node` takes two of them and `read_beds` the third, so a struct would be taken apart at once.
 fn read_body(
     reader: &mut Reader<'_>,
     head: Head,
@@ -42,6 +43,7 @@ fn read_body(
 }
 
 /// The entries that the tables for a file's basin have, by its head alone; 0 where the head cannot be read.
+// No `Option`: no basin has 0 squares, and tables of either length are made and handed to `read`, which says what is wrong.
 pub fn table_length(bytes: &[u8]) -> usize
     ensures { result ≡ squares_of (head_at bytes.now) }
 {
@@ -61,6 +63,7 @@ pub fn read(
     let mut reader = Reader { bytes, at: 0 };
     let head = read_head(&mut reader)?;
     let squares = head.squares();
+    // Arrays, since the library takes no heap.
     let mut shape = [0; MOST];
     let mut heights = [0; MOST];
     let mut records = [Leaf::DRY; MOST];

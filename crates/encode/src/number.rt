@@ -5,6 +5,7 @@ ghost use Rattle.numbers.specs.Numbers.{number, coded};
 use numbers::number::MORE;
 
 /// The number that stands for a signed one.
+// No `From`: both are plain numbers, and a type for the code would be unwrapped at each of its uses.
 pub fn to_coded(signed: i64) -> u64
     ensures { result ≡ coded signed }
 {
@@ -23,6 +24,7 @@ pub fn number_length(value: u64) -> usize
 {
     let mut rest = value;
     let mut length = 1;
+    // What is left of the number goes down here, and no index goes up.
     while rest >= MORE {
         rest /= MORE;
         length += 1;

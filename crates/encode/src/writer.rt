@@ -5,7 +5,7 @@ ghost use Rattle.encode.specs.Writers.{Room, Puts};
 
 use numbers::number::MORE;
 
-/// An output, and the place where the next byte is written.
+/// An output, and the place where the next byte is written. That there is room is asked at each call, as it depends on what is written.
 #[derive(Drop)]
 pub struct Writer<'a> {
     pub out: &'a mut [u8],
@@ -29,6 +29,7 @@ impl Writer<'_> {
         ensures { Puts (number value) self.old self.new }
     {
         let mut rest = value;
+        // What is left of the number goes down here, and no index goes up.
         while rest >= MORE {
             self.byte((rest % MORE + MORE) as u8);
             rest /= MORE;

@@ -20,6 +20,7 @@ pub enum TreeFault {
 
 impl TreeFault {
     /// The refusal, byte and layer of this fault.
+    // `From` under a name, which programs call with no type to write.
     pub fn report(self) -> Report
         ensures { result ≡ tree_report self }
     {

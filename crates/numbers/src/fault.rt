@@ -16,6 +16,7 @@ pub enum NumberFault {
 
 impl NumberFault {
     /// The refusal, byte and layer of this fault.
+    // `From` under a name, which programs call with no type to write.
     pub fn report(self) -> Report
         ensures { result ≡ number_report self }
     {

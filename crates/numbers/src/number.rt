@@ -12,6 +12,7 @@ const GROUPS: usize = 6;
 pub const MORE: u64 = 128;
 
 /// The number that begins at `at`, and the place after it.
+// Of bytes and a place, as its definition is: a reader's methods stand on it.
 pub fn read_number(bytes: &[u8], at: usize) -> Result<(u64, usize), NumberFault>
     ensures { result ≡ number_at bytes.now at }
 {
@@ -37,6 +38,7 @@ pub fn read_number(bytes: &[u8], at: usize) -> Result<(u64, usize), NumberFault>
 }
 
 /// The signed number that a number of the file stands for: even ones for 0, 1, 2 .., odd ones for -1, -2 ..
+// No `From`: both are plain numbers, and a type for the code would be unwrapped at its one use.
 pub fn to_signed(coded: u64) -> i64
     ensures { result ≡ signed coded }
 {
