@@ -17,6 +17,7 @@ use Rattle.nodes.specs.Trees as trees
 use Rattle.nodes.specs.Trees.{node_at, found}
 use Rattle.nodes.proofs.Forms.{tree_was_written}
 use Rattle.nodes.proofs.Painted.{painted_table}
+use Rattle.nodes.proofs.Quarters.{Left}
 use Rattle.codec.specs.declared.fault.FileFault.{FileFault}
 use Rattle.codec.specs.declared.fault.FileFault.TheVariants.{Tree, Trailing, TableLength}
 use Rattle.codec.specs.Files.{head_at, beds_at, body_at, charted, balanced_in, file_at, read_of}
@@ -45,29 +46,27 @@ module _ (L : ℕ) (bs : List ℕ) (at count : ℕ) (all : count ≡ trees.side 
   body_read t b p q e g end = rw (e, ← all, g, eq-eqb q (length bs) end) refl
 
 -- a table that was drawn is the table of the tree's leaves
-drawn_table : {A : Type 0} (pick : ℕ → Leaf → A) (d : A) (L n : ℕ) (bs : List ℕ) (at p : ℕ) (t : trees.Tree) (u w : List A)
-    → Bytes bs → n ≡ trees.side L → length u ≡ trees.side L * trees.side L → node_at L bs at ≡ Ok (t, p)
-    → Drawn pick n L 0 (node_at L bs at) u w
+drawn_table : {A : Type 0} (pick : ℕ → Leaf → A) (d : A) (L : ℕ) (bs : List ℕ) (at p : ℕ) (t : trees.Tree) (u w : List A)
+    → Bytes bs → length u ≡ trees.side L * trees.side L → node_at L bs at ≡ Ok (t, p)
+    → Drawn pick (trees.side L) L 0 (node_at L bs at) u w
     → w ≡ table (trees.side L) (λ x y. pick (found L t x y).height (found L t x y).leaf)
-drawn_table pick d L n bs at p t u w small en eu e drawn =
-    let painting : w ≡ painted pick n L t 0 u = rw e at drawn in
-    painting ∙ (ap (λ k. painted pick k L t 0 u) en ∙ painted_table pick L t d u (tree_was_written L bs at t p small e).1 eu)
+drawn_table pick d L bs at p t u w small eu e drawn =
+    let painting : w ≡ painted pick (trees.side L) L t 0 u = rw e at drawn in
+    painting ∙ painted_table pick L t d u (tree_was_written L bs at t p small e).1 eu
 
-pub body_charts : (h : Heading) (bs : List ℕ) (at p q n : ℕ) (levels levels' beds beds' : List ℕ) (leaves leaves' : List Leaf)
-    → Bytes bs → n ≡ side h
+pub body_charts : (h : Heading) (bs : List ℕ) (at p q : ℕ) (levels levels' beds beds' : List ℕ) (leaves leaves' : List Leaf)
+    → Bytes bs
     → length levels ≡ side h * side h → length beds ≡ side h * side h → length leaves ≡ side h * side h
-    → Ok p ≡ place (node_at h.L bs at)
-    → Drawn (level_of h.L) n h.L 0 (node_at h.L bs at) levels levels'
-    → Drawn record_of n h.L 0 (node_at h.L bs at) leaves leaves'
+    → Left h.L h.L 0 bs at (Ok tt) p levels levels' leaves leaves'
     → Ok q ≡ place (beds_at (length beds) bs p) → IfOk (beds_at (length beds) bs p) (λ b. beds' ≡ b.0)
     → q ≡ length bs
     → (Ok tt ≡ whether (body_at h.L bs at)) × Charts h (body_at h.L bs at) (tables levels' beds' leaves')
-body_charts h bs at p q n levels levels' beds beds' leaves leaves' small en el eb ef et dl dr ed cb end =
-    let t = placed (node_at h.L bs at) p et in
+body_charts h bs at p q levels levels' beds beds' leaves leaves' small el eb ef tree ed cb end =
+    let t = placed (node_at h.L bs at) p tree.next in
     let b = placed (beds_at (length beds) bs p) q ed in
     let e = body_read h.L bs at (length beds) eb t.0 b.0 p q t.1 b.1 end in
-    let il = drawn_table (level_of h.L) 0 h.L n bs at p t.0 levels levels' small en el t.1 dl in
-    let ir = drawn_table record_of dry h.L n bs at p t.0 leaves leaves' small en ef t.1 dr in
+    let il = drawn_table (level_of h.L) 0 h.L bs at p t.0 levels levels' small el t.1 tree.levels in
+    let ir = drawn_table record_of dry h.L bs at p t.0 leaves leaves' small ef t.1 tree.leaves in
     let ib : beds' ≡ b.0 = rw b.1 at cb in
     rw e (refl, λ i. tables (il i) (ib i) (ir i))
 

@@ -23,11 +23,20 @@ pub enum FileFault {
 
 impl FileFault {
     /// The refusal, byte and layer of this fault.
+    // `From` under a name, which programs call with no type to write.
     pub fn report(self) -> Report
         ensures { result ≡ file_report self }
     {
-        match self {
-            FileFault::Tree(fault) => fault.report(),
+        Report::from(self)
+    }
+}
+
+impl From<FileFault> for Report {
+    ghost from_gives = { λ f r. r ≡ file_report f };
+
+    fn from(fault: FileFault) -> Report {
+        match fault {
+            FileFault::Tree(fault) => Report::from(fault),
             FileFault::Range(byte) => Report::new(Refusal::FileRange, byte, Layer::File),
             FileFault::Trailing(byte) => Report::new(Refusal::TrailingBytes, byte, Layer::File),
             FileFault::TableLength(byte) => Report::new(Refusal::TableLength, byte, Layer::File),

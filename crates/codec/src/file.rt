@@ -10,16 +10,18 @@ use crate::heading::read_head;
 use basin::head::Head;
 use basin::leaf::Leaf;
 use nodes::fault::TreeFault;
-use nodes::node::{Spot, read_node};
+use nodes::node::read_node;
+use nodes::spot::Spot;
+use numbers::reader::Reader;
 use tables::balance::is_balanced;
 
 /// The most squares that a basin has.
 const MOST: usize = 4096;
 
-/// Reads the tree and the beds of a basin from `at` to the end of the file, into tables with an entry for each of its squares.
+/// Reads the tree and the beds of a basin from the next byte to the end of the file, into tables with an entry for each of its squares.
+// Tables one by one: `read_node` takes two of them and `read_beds` the third, so a struct would be taken apart at once.
 fn read_body(
-    bytes: &[u8],
-    at: usize,
+    reader: &mut Reader<'_>,
     head: Head,
     levels: &mut [u8],
     beds: &mut [u16],
@@ -28,70 +30,24 @@ fn read_body(
     requires levels { length levels.old ≡ side (heading head) * side (heading head) }
     requires beds { length beds.old ≡ side (heading head) * side (heading head) }
     requires leaves { length leaves.old ≡ side (heading head) * side (heading head) }
-    ensures whether { result ≡ whether (body_at head.levels bytes.now at) }
-    ensures tables { Charts (heading head) (body_at head.levels bytes.now at) (tables levels.new beds.new leaves.new) }
+    ensures whether { result ≡ whether (body_at head.levels reader.old.bytes.now reader.old.at) }
+    ensures tables { Charts (heading head) (body_at head.levels reader.old.bytes.now reader.old.at) (tables levels.new beds.new leaves.new) }
 {
-    let n = head.side();
-    let whole = Spot {
-        corner: 0,
-        height: head.levels,
-        side: n,
-        stride: n,
-        levels: head.levels,
-    };
-    let tree_end = read_node(bytes, at, whole, levels, leaves)?;
-    let end = read_beds(bytes, tree_end, beds)?;
-    if end == bytes.len() {
+    read_node(reader, Spot::whole(head), levels, leaves)?;
+    read_beds(reader, beds)?;
+    if reader.at == reader.bytes.len() {
         Ok(())
     } else {
-        Err(FileFault::Trailing(end))
+        Err(FileFault::Trailing(reader.at))
     }
-}
-
-/// Reads a basin's file by way of three tables that are large enough for any basin.
-fn read_by(
-    bytes: &[u8],
-    levels: &mut [u8],
-    beds: &mut [u16],
-    leaves: &mut [Leaf],
-    shape: &mut [u8],
-    heights: &mut [u16],
-    records: &mut [Leaf],
-) -> Result<Head, FileFault>
-    requires shape { length shape.old ≡ 4096 }
-    requires heights { length heights.old ≡ 4096 }
-    requires records { length records.old ≡ 4096 }
-    ensures { (seen result, tables levels.new beds.new leaves.new) ≡ read_of bytes.now (tables levels.old beds.old leaves.old) }
-{
-    let (head, at) = read_head(bytes)?;
-    let squares = head.squares();
-    let shape = &mut shape[0..squares];
-    let heights = &mut heights[0..squares];
-    let records = &mut records[0..squares];
-    read_body(bytes, at, head, shape, heights, records)?;
-    if !is_balanced(shape, head.side()) {
-        return Err(FileFault::Tree(TreeFault::Unbalanced(bytes.len())));
-    }
-    if levels.len() != squares || beds.len() != squares || leaves.len() != squares {
-        return Err(FileFault::TableLength(bytes.len()));
-    }
-    levels.copy_from_slice(shape);
-    beds.copy_from_slice(heights);
-    leaves.copy_from_slice(records);
-    Ok(head)
 }
 
 /// The entries that the tables for a file's basin have, by its head alone; 0 where the head cannot be read.
+// No `Option`: no basin has 0 squares, and tables of either length are made and handed to `read`, which says what is wrong.
 pub fn table_length(bytes: &[u8]) -> usize
     ensures { result ≡ squares_of (head_at bytes.now) }
 {
-    match read_head(bytes) {
-        Ok(found) => {
-            let (head, _) = found;
-            head.squares()
-        }
-        Err(_) => 0,
-    }
+    read_head(&mut Reader { bytes, at: 0 }).map_or(0, |head| head.squares())
 }
 
 /// Reads a basin's file into its head and three tables. What it grants is a valid basin; where it refuses, the tables are as they were.
@@ -104,16 +60,25 @@ pub fn read(
     ensures read { (seen result, tables levels.new beds.new leaves.new) ≡ read_of bytes.now (tables levels.old beds.old leaves.old) }
     ensures valid { IfOk result (λ h. ValidBasin (basin_of h levels.new beds.new leaves.new)) }
 {
+    let mut reader = Reader { bytes, at: 0 };
+    let head = read_head(&mut reader)?;
+    let squares = head.squares();
+    // Arrays, since the library takes no heap.
     let mut shape = [0; MOST];
     let mut heights = [0; MOST];
     let mut records = [Leaf::DRY; MOST];
-    read_by(
-        bytes,
-        levels,
-        beds,
-        leaves,
-        &mut shape,
-        &mut heights,
-        &mut records,
-    )
+    let shape = &mut shape[..squares];
+    let heights = &mut heights[..squares];
+    let records = &mut records[..squares];
+    read_body(&mut reader, head, shape, heights, records)?;
+    if !is_balanced(shape, head.side()) {
+        return Err(FileFault::Tree(TreeFault::Unbalanced(bytes.len())));
+    }
+    if levels.len() != squares || beds.len() != squares || leaves.len() != squares {
+        return Err(FileFault::TableLength(bytes.len()));
+    }
+    levels.copy_from_slice(shape);
+    beds.copy_from_slice(heights);
+    leaves.copy_from_slice(records);
+    Ok(head)
 }

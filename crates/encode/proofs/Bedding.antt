@@ -1,53 +1,45 @@
 -- The beds, one after another.
-use Rattle.std.proofs.Common.{◌≡◌, ℕ, ◌+◌, ◌<◌, ◌≤◌, List, [], ◌++◌, length, get_or, drop, sym, refl, ap, ◌∙◌, add-one, arith, length-append, drop-cons}
-use lib.Seq.{sets}
-use Rattle.std.proofs.lemmas.List.{drop_all}
+use Rattle.std.proofs.Common.{◌≡◌, ℕ, ◌+◌, ◌*◌, ◌<◌, ◌≤◌, List, [], ◌∷◌, ◌++◌, length, get_or, take, drop, sym, refl, ap, ◌∙◌, add-one, append_assoc, arith, length-append, drop-cons}
+use Rattle.std.specs.List.{sum_by}
+use Rattle.std.proofs.lemmas.List.Sums.{sum_by-cons}
+use Rattle.std.proofs.lemmas.List.{append-nil, take_more, take-append-drop}
 use Rattle.numbers.specs.Numbers.{number}
 use Rattle.encode.specs.Bytes.{beds_bytes}
-use Rattle.encode.proofs.Puts.{sets_append}
+use Rattle.encode.specs.declared.writer.Writer.{Writer}
+use Rattle.encode.specs.Writers.{Puts}
+use Rattle.encode.proofs.Nodes.{groups_few}
 
-pub beds_more : (beds : List ℕ) (i : ℕ) → i < length beds → beds_bytes (drop i beds) ≡ number (get_or beds i 0) ++ beds_bytes (drop (i + 1) beds)
+bytes_append : (xs ys : List ℕ) → beds_bytes (xs ++ ys) ≡ beds_bytes xs ++ beds_bytes ys
 unfolding beds_bytes
-beds_more beds i h = rw (add-one, drop-cons beds i 0 h) refl
+bytes_append [] ys = refl
+bytes_append (x ∷ xs) ys = rw (bytes_append xs ys, append_assoc) refl
 
-pub beds_none : (beds : List ℕ) (i : ℕ) → length beds ≤ i → beds_bytes (drop i beds) ≡ []
+-- the first i beds, the next, and the others
+pub bytes_cut : (beds : List ℕ) (i : ℕ) → i < length beds
+    → beds_bytes beds ≡ beds_bytes (take i beds) ++ (number (get_or beds i 0) ++ beds_bytes (drop (i + 1) beds))
 unfolding beds_bytes
-beds_none beds i h = rw (drop_all i beds h) refl
+bytes_cut beds i h =
+    let e : take i beds ++ (get_or beds i 0 ∷ drop (i + 1) beds) ≡ beds =
+    rw (add-one, ← drop-cons beds i 0 h) (take-append-drop i beds) in
+    ap beds_bytes (sym e) ∙ bytes_append (take i beds) (get_or beds i 0 ∷ drop (i + 1) beds)
 
--- from here on, i of the beds are passed
-pub record Passed (beds : List ℕ) (at i here : ℕ) : Type 0 where
-  pub ends : here + length (beds_bytes (drop i beds)) ≡ at + length (beds_bytes beds)
+pub bytes_more : (beds : List ℕ) (i : ℕ) → i < length beds → beds_bytes (take (i + 1) beds) ≡ beds_bytes (take i beds) ++ number (get_or beds i 0)
+unfolding beds_bytes
+bytes_more beds i h = rw (take_more beds i 0 h) (bytes_append (take i beds) (get_or beds i 0 ∷ []) ∙ ap (λ t. beds_bytes (take i beds) ++ t) (append-nil (number (get_or beds i 0))))
 
-pub passed_more : (beds : List ℕ) (at i here : ℕ) → i < length beds → Passed beds at i here → Passed beds at (i + 1) (here + length (number (get_or beds i 0)))
-passed_more beds at i here h p =
-    let e = rw (beds_more beds i h) at p.ends in
-    record { ends = omega (arith, e, length-append (number (get_or beds i 0)) (beds_bytes (drop (i + 1) beds))) }
+pub bytes_none : (w : Writer) → Puts (beds_bytes []) w w
+unfolding beds_bytes
+bytes_none w = record { same = refl; place = omega arith; written = refl }
 
-pub passed_all : (beds : List ℕ) (at i here : ℕ) → length beds ≤ i → Passed beds at i here → here ≡ at + length (beds_bytes beds)
-passed_all beds at i here h p = let e = rw (beds_none beds i h) at p.ends in omega (arith, e)
+-- the bytes of all beds are as many as those of each together, which are six at most
+pub bytes_sum : (beds : List ℕ) → length (beds_bytes beds) ≡ sum_by (λ b. length (number b)) beds
+unfolding beds_bytes
+bytes_sum [] = refl
+bytes_sum (b ∷ beds) =
+    length-append (number b) (beds_bytes beds)
+    ∙ (ap (λ n. length (number b) + n) (bytes_sum beds) ∙ sym (sum_by-cons (λ b. length (number b)) b beds))
 
--- there is room for the next
-pub passed_room : (beds : List ℕ) (at i here n : ℕ) → i < length beds → Passed beds at i here → at + length (beds_bytes beds) ≤ n
-    → here + length (number (get_or beds i 0)) ≤ n
-passed_room beds at i here n h p r =
-    let e = rw (beds_more beds i h) at p.ends in
-    omega (arith, e, length-append (number (get_or beds i 0)) (beds_bytes (drop (i + 1) beds)))
-
--- and with the others in their places, out is what it is to be
-pub record Laid (beds : List ℕ) (at i here : ℕ) (before out : List ℕ) : Type 0 where
-  pub passed : Passed beds at i here
-  pub bytes : sets before at (beds_bytes beds) ≡ sets out here (beds_bytes (drop i beds))
-
-pub laid_more : (beds : List ℕ) (at i here : ℕ) (before out : List ℕ) → i < length beds → Laid beds at i here before out
-    → Laid beds at (i + 1) (here + length (number (get_or beds i 0))) before (sets out here (number (get_or beds i 0)))
-laid_more beds at i here before out h p =
-    record {
-      passed = passed_more beds at i here h p.passed;
-      bytes =
-          p.bytes ∙ (ap (λ bs. sets out here bs) (beds_more beds i h)
-          ∙ sets_append out here (number (get_or beds i 0)) (beds_bytes (drop (i + 1) beds)));
-    }
-
-pub laid_all : (beds : List ℕ) (at i here : ℕ) (before out : List ℕ) → length beds ≤ i → Laid beds at i here before out
-    → out ≡ sets before at (beds_bytes beds)
-laid_all beds at i here before out h p = sym (p.bytes ∙ ap (λ bs. sets out here bs) (beds_none beds i h))
+pub bytes_few : (beds : List ℕ) → length (beds_bytes beds) ≤ 6 * length beds
+unfolding beds_bytes
+bytes_few [] = omega arith
+bytes_few (b ∷ beds) = omega (arith, length-append (number b) (beds_bytes beds), groups_few 6 b, bytes_few beds)

@@ -1,18 +1,23 @@
 -- The bytes of a block that is cut, and of one that is a leaf.
-use Rattle.std.proofs.Common.{◌≡◌, ℕ, zero, suc, ◌+◌, ◌-◌, ◌*◌, ◌/◌, ◌^◌, ◌<◌, ◌≤◌, ◌++◌, length, get_or, sym, refl, ap, ◌∙◌, ⊎_elim, pow-suc, arith, lit<, length-append}
+use Rattle.std.proofs.Common.{◌≡◌, ℕ, zero, suc, ◌+◌, ◌-◌, ◌*◌, ◌/◌, ◌^◌, ◌<◌, ◌≤◌, ◌++◌, length, Bor, sym, refl, ap, ◌∙◌, ⊎_elim, pow-suc, arith, lit<, length-append}
 use native.Mathlib.Nat.{pow-le-pow_right, one-le-pow}
 use Rattle.std.proofs.lemmas.Bool.{lt-ltb, le-ltb, cases_lt}
 use Rattle.basin.specs.declared.leaf.Leaf.{Leaf}
-use Rattle.basin.specs.Basins.{Basin, side, view, ValidBasin}
-use Rattle.basin.specs.Records.{dry, InRange}
+use Rattle.basin.specs.Basins.{Basin, view}
+use Rattle.basin.specs.Records.{InRange}
 use Rattle.basin.specs.Views.{View}
 use Rattle.basin.proofs.Sizes.{side_pos}
 use Rattle.numbers.specs.Numbers.{groups, number, coded}
 use Rattle.numbers.proofs.Forms.{groups_last, groups_more}
 use Rattle.nodes.specs.Trees.{Tree, one, four}
 use Rattle.nodes.specs.Written.{leaf_bytes, tree_bytes}
-use Rattle.encode.specs.Blocks.{LiesIn}
+use Rattle.nodes.specs.Spots.{WholeSpot}
+use Rattle.tables.specs.declared.survey.Survey.{Survey}
+use Rattle.tables.specs.Surveys.{surveyed}
+use Rattle.basin.specs.declared.quarters.Quarters.{Quarters}
+use Rattle.encode.specs.declared.tree.Node.{Node}
 use Rattle.encode.specs.Bytes.{tree_of, node_bytes}
+use Rattle.encode.specs.Nodes.{record_at, IsLeaf, Part, IsCut, bytes_of}
 use Rattle.encode.proofs.Ranges.{on_the_largest}
 
 -- ---- the tree of a block
@@ -45,7 +50,7 @@ unfolding tree_bytes
 bytes_leaf v h x y l = ap tree_bytes (tree_leaf v h x y l)
 
 -- ---- how many they are
-groups_few : (k v : ℕ) → length (groups k v) ≤ k
+pub groups_few : (k v : ℕ) → length (groups k v) ≤ k
 unfolding groups
 groups_few zero v = omega arith
 groups_few (suc k) v =
@@ -95,88 +100,57 @@ node_few v h x y l =
     let p : 4 ^ h ≤ 4 ^ 6 = pow-le-pow_right (lit< tt) l in
     omega (arith, few v h x y)
 
--- ---- the block at square (x, y), whose place in the tables of a basin of side n is p
-pub record Here (b : Basin) (height x y n p : ℕ) : Type 0 where
-  pub valid : ValidBasin b
-  pub lies : LiesIn b.head height x y
-  pub side_is : n ≡ side b.head
-  pub place_is : p ≡ y * n + x
+-- ---- a node of a valid basin's tree
+module _ (n : Node) where
+  abbrev basin_at : Basin
+  basin_at = surveyed n.survey.now
 
-module _ {b : Basin} {height x y n p : ℕ} (here : Here b height x y n p) where
-  place_of : p ≡ y * side b.head + x
-  place_of = here.place_is ∙ ap (λ k. y * k + x) here.side_is
+  pub small_at : InRange 4096 (record_at n)
+  small_at =
+      let side_is = ap (λ k. 2 ^ k) n.same in
+      on_the_largest basin_at n.survey.now.valid n.spot.x n.spot.y
+      (omega (arith, n.spot.east, side_is, side_pos n.spot.height)) (omega (arith, n.spot.north, side_is, side_pos n.spot.height))
 
-  level_here : get_or b.tables.levels p 0 ≡ (view b).level x y
-  level_here = ap (λ k. get_or b.tables.levels k 0) place_of
+  pub few_at : length (bytes_of n) ≤ 81920
+  few_at = node_few (view basin_at) n.spot.height n.spot.x n.spot.y (omega (arith, n.spot.deep, n.spot.few))
 
-  leaf_here : get_or b.tables.leaves p dry ≡ (view b).leaf x y
-  leaf_here = ap (λ k. get_or b.tables.leaves k dry) place_of
+  pub leaf_is : IsLeaf n → bytes_of n ≡ number 0 ++ leaf_bytes (record_at n)
+  leaf_is low = bytes_leaf (view basin_at) n.spot.height n.spot.x n.spot.y low
 
-  pub small_here : InRange 4096 (get_or b.tables.leaves p dry)
-  small_here =
-      rw leaf_here
-      (on_the_largest b here.valid x y (omega (arith, here.lies.east, side_pos height)) (omega (arith, here.lies.north, side_pos height)))
+  -- what there is for a quarter, by the node's own numbers
+  pub part_is : {A : Type 0} (f : View → (height x y : ℕ) → A) {east north : ℕ} {q : Node} → Part n east north q → (x y : ℕ)
+      → x ≡ n.spot.x + east → y ≡ n.spot.y + north
+      → f (view basin_at) (n.spot.height - 1) x y ≡ f (view (surveyed q.survey.now)) q.spot.height q.spot.x q.spot.y
+  part_is f {east} {north} {q} p x y ex ey =
+      let k : n.spot.height - 1 ≡ q.spot.height = omega (arith, p.spot.height) in
+      let e : x ≡ q.spot.x = ex ∙ sym p.spot.x in
+      let g : y ≡ q.spot.y = ey ∙ sym p.spot.y in
+      let same = sym p.survey in
+      λ i. f (view (surveyed (same i).now)) (k i) (e i) (g i)
 
-  pub few_here : length (node_bytes (view b) height x y) ≤ 81920
-  few_here = node_few (view b) height x y (omega (arith, here.lies.deep, here.valid.head.levels))
-
-  -- where it is cut
-  module _ {s : ℕ} (e : s ≡ 2 ^ (height - 1)) (deep : b.head.L - height < get_or b.tables.levels p 0) where
-    deeper : (view b).L - height < (view b).level x y
-    deeper = rw level_here at deep
-
-    pub high : 0 < height
-    high =
-        omega (
-          arith,
-          deeper,
-          here.valid.squares.quadtree.shallow x y
-              (omega (arith, here.lies.east, side_pos height)) (omega (arith, here.lies.north, side_pos height)),
+  module _ {q : Quarters Node} (c : IsCut n q) where
+    pub cut_is : bytes_of n ≡ number 1 ++ (bytes_of q.sw ++ (bytes_of q.se ++ (bytes_of q.nw ++ bytes_of q.ne)))
+    cut_is =
+        let below : q.sw.spot.height ≡ n.spot.height - 1 = omega (arith, c.sw.spot.height) in
+        rw (
+          ← part_is node_bytes c.sw n.spot.x n.spot.y (omega arith) (omega arith),
+          ← part_is node_bytes c.se (n.spot.x + 2 ^ q.sw.spot.height) n.spot.y refl (omega arith),
+          ← part_is node_bytes c.nw n.spot.x (n.spot.y + 2 ^ q.sw.spot.height) (omega arith) refl,
+          ← part_is node_bytes c.ne (n.spot.x + 2 ^ q.sw.spot.height) (n.spot.y + 2 ^ q.sw.spot.height) refl refl,
         )
+        (bytes_cut (view basin_at) n.spot.height n.spot.x n.spot.y (2 ^ q.sw.spot.height) (omega (arith, c.sw.spot.height)) (ap (λ k. 2 ^ k) below) c.deep)
 
-    halves : 2 ^ height ≡ s + s
-    halves =
-        let up : height ≡ suc (height - 1) = omega (arith, high) in
-        omega (arith, ap (λ k. 2 ^ k) up ∙ pow-suc 2 (height - 1))
-
-    quarter : (p q : ℕ) → p ≤ x + s → q ≤ y + s → LiesIn b.head (height - 1) p q
-    quarter p q ep eq =
-        record {
-          deep = omega (arith, here.lies.deep);
-          east = omega (arith, here.lies.east, halves);
-          north = omega (arith, here.lies.north, halves);
-        }
-
-    pub sw : LiesIn b.head (height - 1) x y
-    sw = quarter x y (omega arith) (omega arith)
-
-    pub se : LiesIn b.head (height - 1) (x + s) y
-    se = quarter (x + s) y (omega arith) (omega arith)
-
-    pub nw : LiesIn b.head (height - 1) x (y + s)
-    nw = quarter x (y + s) (omega arith) (omega arith)
-
-    pub ne : LiesIn b.head (height - 1) (x + s) (y + s)
-    ne = quarter (x + s) (y + s) (omega arith) (omega arith)
-
-    pub cut_bytes : node_bytes (view b) height x y
-        ≡ number 1 ++ (node_bytes (view b) (height - 1) x y ++ (node_bytes (view b) (height - 1) (x + s) y
-        ++ (node_bytes (view b) (height - 1) x (y + s) ++ node_bytes (view b) (height - 1) (x + s) (y + s))))
-    cut_bytes = bytes_cut (view b) height x y s high e deeper
-
-    pub cut_length : length (node_bytes (view b) height x y)
-        ≡ 1 + length (node_bytes (view b) (height - 1) x y) + length (node_bytes (view b) (height - 1) (x + s) y)
-        + length (node_bytes (view b) (height - 1) x (y + s)) + length (node_bytes (view b) (height - 1) (x + s) (y + s))
+    pub cut_length : length (bytes_of n) ≡ 1 + length (bytes_of q.sw) + length (bytes_of q.se) + length (bytes_of q.nw) + length (bytes_of q.ne)
     cut_length =
         let z = one_group 1 (lit< tt) in
-        rw cut_bytes (simp length-append (omega arith))
+        rw cut_is (simp length-append (omega arith))
 
-  -- where it is a leaf
-  module _ (low : get_or b.tables.levels p 0 ≤ b.head.L - height) where
-    pub leaf_node : node_bytes (view b) height x y ≡ number 0 ++ leaf_bytes (get_or b.tables.leaves p dry)
-    leaf_node = bytes_leaf (view b) height x y (rw level_here at low) ∙ ap (λ l. number 0 ++ leaf_bytes l) (sym leaf_here)
+  pub leaf_length : IsLeaf n → length (bytes_of n) ≡ 1 + length (leaf_bytes (record_at n))
+  leaf_length low =
+      let z = one_group 0 (lit< tt) in
+      rw (leaf_is low) (simp length-append (omega arith))
 
-    pub leaf_node_length : length (node_bytes (view b) height x y) ≡ 1 + length (leaf_bytes (get_or b.tables.leaves p dry))
-    leaf_node_length =
-        let z = one_group 0 (lit< tt) in
-        rw leaf_node (simp length-append (omega arith))
+-- the node of the whole basin
+pub whole_is : (s : Bor Survey) (n : Node) → n.survey ≡ s → WholeSpot s.now.head.levels n.spot
+    → bytes_of n ≡ node_bytes (view (surveyed s.now)) s.now.head.levels 0 0
+whole_is s n e h = λ i. node_bytes (view (surveyed (e i).now)) (h.2 i) (h.0 i) (h.1 i)

@@ -1,6 +1,9 @@
 -- Bytes written one after another.
-use Rattle.std.proofs.Common.{◌≡◌, ℕ, suc, ◌+◌, ◌≤◌, List, [], ◌∷◌, ◌++◌, length, set, sym, refl, ◌∙◌, add-zero, arith, length-append}
+use Rattle.std.proofs.Common.{◌≡◌, ℕ, suc, ◌+◌, List, [], ◌∷◌, ◌++◌, length, set, sym, refl, ◌∙◌, add-zero, arith, length-append}
+use Rattle.std.proofs.Math.Seq.{length-sets}
 use lib.Seq.{sets}
+use Rattle.encode.specs.declared.writer.Writer.{Writer}
+use Rattle.encode.specs.Writers.{Room, Puts}
 
 pub sets_append : (l : List ℕ) (i : ℕ) (xs ys : List ℕ) → sets l i (xs ++ ys) ≡ sets (sets l i xs) (i + length xs) ys
 sets_append l i [] ys = rw add-zero refl
@@ -8,20 +11,21 @@ sets_append l i (x ∷ xs) ys =
     let e : i + suc (length xs) ≡ suc i + length xs = omega arith in
     rw e (sets_append (set l i x) (suc i) xs ys)
 
--- writing xs from at on leads from one output and place to the next
-pub record Put (xs : List ℕ) (o : List ℕ) (at : ℕ) (o' : List ℕ) (at' : ℕ) : Type 0 where
-  pub place : at' ≡ at + length xs
-  pub bytes : o' ≡ sets o at xs
+-- the output keeps its length
+pub kept : {xs : List ℕ} {w v : Writer} → Puts xs w v → length v.out.now ≡ length w.out.now
+kept {xs} {w} {v} p = rw p.written (length-sets w.out.now w.at xs)
 
-pub put : {xs o o' : List ℕ} {at at' : ℕ} → at' ≡ at + length xs → o' ≡ sets o at xs → Put xs o at o' at'
-put e f = record { place = e; bytes = f }
-
-pub then : {xs ys o p q : List ℕ} {a b c : ℕ} → Put xs o a p b → Put ys p b q c → Put (xs ++ ys) o a q c
-then {xs} {ys} {o} {p} {q} {a} {b} {c} f g =
+pub then : {xs ys : List ℕ} {u v w : Writer} → Puts xs u v → Puts ys v w → Puts (xs ++ ys) u w
+then {xs} {ys} {u} {v} {w} f g =
     record {
+      same = g.same ∙ f.same;
       place = simp length-append (omega (arith, f.place, g.place));
-      bytes = g.bytes ∙ rw (f.bytes, f.place) (sym (sets_append o a xs ys));
+      written = g.written ∙ rw (f.written, f.place) (sym (sets_append u.out.now u.at xs ys));
     }
 
-pub room_three : (at n : ℕ) (ws xs ys : List ℕ) → at + length (ws ++ (xs ++ ys)) ≤ n → at + length ws + length xs + length ys ≤ n
-room_three at n ws xs ys h = omega (arith, length-append ws (xs ++ ys), length-append xs ys)
+-- where there is room for both, there is room for the first, and then for the second
+pub first : {xs : List ℕ} (ys : List ℕ) {w : Writer} → Room (xs ++ ys) w → Room xs w
+first {xs} ys r = record { fits = omega (arith, r.fits, length-append xs ys) }
+
+pub second : {xs ys : List ℕ} {v w : Writer} → Room (xs ++ ys) v → Puts xs v w → Room ys w
+second {xs} {ys} {v} {w} r p = record { fits = omega (arith, r.fits, length-append xs ys, p.place, kept p) }

@@ -7,12 +7,17 @@ use Rattle.basin.specs.declared.refusal.Refusal.TheVariants.{OutputShort}
 use Rattle.basin.specs.Basins.{Basin, view}
 use Rattle.basin.specs.Flaws.{validity}
 use Rattle.numbers.specs.Numbers.{number}
+use Rattle.encode.specs.declared.writer.Writer.{Writer}
+use Rattle.encode.specs.Writers.{Room}
 use Rattle.encode.specs.Bytes.{node_bytes, beds_bytes, file_bytes, write_of}
 
 pub file_parts : (b : Basin) → length (file_bytes b)
     ≡ length (number b.head.L) + length (number b.head.d) + length (number b.head.loose)
     + length (node_bytes (view b) b.head.L 0 0) + length (beds_bytes b.tables.beds)
 file_parts b = simp length-append (omega arith)
+
+pub file_room : (b : Basin) (w : Writer) → w.at ≡ 0 → length (file_bytes b) ≤ length w.out.now → Room (file_bytes b) w
+file_room b w e r = record { fits = omega arith }
 
 module _ (b : Basin) (out : List ℕ) where
   pub write_refused : (e : Refusal) → Err e ≡ validity b → (Err e, out) ≡ write_of b out

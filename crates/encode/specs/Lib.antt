@@ -1,4 +1,5 @@
 -- The definitions that the contracts cite.
-pub mod Blocks
 pub mod Bytes
 pub mod Trips
+pub mod Writers
+pub mod Nodes

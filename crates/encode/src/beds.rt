@@ -1,9 +1,10 @@
 // The beds, measured and written.
-ghost use Rattle.std.specs.Prelude.{◌≡◌, ◌+◌, ◌≤◌, length};
-ghost use Rattle.std.proofs.lemmas.List.Edits.{sets};
+ghost use Rattle.std.specs.Prelude.{◌≡◌, ◌≤◌, length};
 ghost use Rattle.encode.specs.Bytes.{beds_bytes};
+ghost use Rattle.encode.specs.Writers.{Room, Puts};
 
-use crate::number::{number_length, put_number};
+use crate::number::number_length;
+use crate::writer::Writer;
 
 /// The bytes that the beds take.
 pub fn beds_length(beds: &[u16]) -> usize
@@ -11,22 +12,15 @@ pub fn beds_length(beds: &[u16]) -> usize
     ensures value { result ≡ length (beds_bytes beds.now) }
     ensures most { result ≤ 24576 }
 {
-    let mut length = 0;
-    for bed in beds {
-        length += number_length(*bed as u64);
-    }
-    length
+    beds.iter().map(|bed| number_length(u64::from(*bed))).sum()
 }
 
-/// Writes the beds from entry `at` on, and answers the place after them.
-pub fn put_beds(out: &mut [u8], at: usize, beds: &[u16]) -> usize
-    requires { at + length (beds_bytes beds.now) ≤ length out.old }
-    ensures place { result ≡ at + length (beds_bytes beds.now) }
-    ensures bytes { out.new ≡ sets out.old at (beds_bytes beds.now) }
+/// Writes the beds.
+pub fn put_beds(writer: &mut Writer<'_>, beds: &[u16])
+    requires { Room (beds_bytes beds.now) writer.old }
+    ensures { Puts (beds_bytes beds.now) writer.old writer.new }
 {
-    let mut here = at;
     for bed in beds {
-        here = put_number(out, here, *bed as u64);
+        writer.number(u64::from(*bed));
     }
-    here
 }

@@ -1,41 +1,45 @@
 // The whole file, measured and written.
 ghost use Rattle.std.specs.Prelude.{◌≡◌, ◌≤◌, length};
 ghost use Rattle.std.proofs.lemmas.List.Edits.{sets};
-ghost use Rattle.basin.specs.Basins.{basin_of, ValidBasin};
+ghost use Rattle.basin.specs.Basins.{basin_of};
+ghost use Rattle.tables.specs.Surveys.{surveyed};
 ghost use Rattle.encode.specs.Bytes.{file_bytes, write_of};
 ghost use Rattle.encode.specs.Trips.{WrittenBasinIsRead, ReadFileIsWritten};
 
 use crate::beds::{beds_length, put_beds};
 use crate::node::{node_length, put_node};
-use crate::number::{number_length, put_number};
+use crate::number::number_length;
+use crate::tree::Node;
+use crate::writer::Writer;
 use basin::head::Head;
 use basin::leaf::Leaf;
 use basin::refusal::Refusal;
-use tables::validity::validate;
+use tables::survey::Survey;
 
 /// The bytes that a valid basin's file has.
-fn file_length(head: Head, levels: &[u8], beds: &[u16], leaves: &[Leaf]) -> usize
-    requires { ValidBasin (basin_of head levels.now beds.now leaves.now) }
-    ensures { result ≡ length (file_bytes (basin_of head levels.now beds.now leaves.now)) }
+fn file_length(survey: &Survey<'_>) -> usize
+    ensures { result ≡ length (file_bytes (surveyed survey.now)) }
 {
+    let head = survey.head;
     let levels_length = number_length(head.levels as u64);
     let width_length = number_length(head.width as u64);
     let loose_length = number_length(head.loose as u64);
-    let tree_length = node_length(head, levels, beds, leaves, 0, 0, head.levels);
-    levels_length + width_length + loose_length + tree_length + beds_length(beds)
+    let tree_length = node_length(Node::whole(survey));
+    levels_length + width_length + loose_length + tree_length + beds_length(survey.beds)
 }
 
 /// Writes a valid basin's file into the first bytes of `out`.
-fn put_file(out: &mut [u8], head: Head, levels: &[u8], beds: &[u16], leaves: &[Leaf])
-    requires valid { ValidBasin (basin_of head levels.now beds.now leaves.now) }
-    requires room { length (file_bytes (basin_of head levels.now beds.now leaves.now)) ≤ length out.old }
-    ensures { out.new ≡ sets out.old 0 (file_bytes (basin_of head levels.now beds.now leaves.now)) }
+fn put_file(out: &mut [u8], survey: &Survey<'_>)
+    requires { length (file_bytes (surveyed survey.now)) ≤ length out.old }
+    ensures { out.new ≡ sets out.old 0 (file_bytes (surveyed survey.now)) }
 {
-    let width_at = put_number(out, 0, head.levels as u64);
-    let loose_at = put_number(out, width_at, head.width as u64);
-    let tree_at = put_number(out, loose_at, head.loose as u64);
-    let beds_at = put_node(out, tree_at, head, levels, beds, leaves, 0, 0, head.levels);
-    put_beds(out, beds_at, beds);
+    let head = survey.head;
+    let mut writer = Writer { out, at: 0 };
+    writer.number(head.levels as u64);
+    writer.number(head.width as u64);
+    writer.number(head.loose as u64);
+    put_node(&mut writer, Node::whole(survey));
+    put_beds(&mut writer, survey.beds);
 }
 
 /// Writes a basin's file into the first bytes of `out`, and answers how many. Where it refuses, `out` is as it was.
@@ -50,12 +54,12 @@ pub fn write(
     ensures back { WrittenBasinIsRead }
     ensures forth { ReadFileIsWritten }
 {
-    validate(head, levels, beds, leaves)?;
-    let length = file_length(head, levels, beds, leaves);
+    let survey = Survey::new(head, levels, beds, leaves)?;
+    let length = file_length(&survey);
     if out.len() < length {
         return Err(Refusal::OutputShort);
     }
-    put_file(out, head, levels, beds, leaves);
+    put_file(out, &survey);
     Ok(length)
 }
 

@@ -6,3 +6,5 @@ pub mod file;
 pub mod node;
 pub mod number;
 pub mod record;
+pub mod tree;
+pub mod writer;

@@ -1,82 +1,43 @@
 // The nodes of the tree, measured and written.
-ghost use Rattle.std.specs.Prelude.{◌≡◌, ◌+◌, ◌^◌, ◌≤◌, length};
-ghost use Rattle.std.proofs.lemmas.List.Edits.{sets};
-ghost use Rattle.basin.specs.Basins.{heading, basin_of, view, ValidBasin};
-ghost use Rattle.encode.specs.Blocks.{LiesIn};
-ghost use Rattle.encode.specs.Bytes.{node_bytes};
+ghost use Rattle.std.specs.Prelude.{◌≡◌, ◌≤◌, length};
+ghost use Rattle.encode.specs.Nodes.{bytes_of};
+ghost use Rattle.encode.specs.Writers.{Room, Puts};
 
-use crate::number::put_number;
 use crate::record::{leaf_length, put_leaf};
-use basin::head::Head;
-use basin::leaf::Leaf;
-use basin::size::{place, side};
+use crate::tree::Node;
+use crate::writer::Writer;
+use nodes::mark::Mark;
+use basin::quarters::Quarters;
 
-/// A leaf, with its squares undivided.
-const LEAF: u64 = 0;
-
-/// A node cut into four quarters.
-const CUT: u64 = 1;
-
-/// The bytes that the node of a block takes: its south-west square is (x, y), and it has `height` levels below it.
-pub fn node_length(
-    head: Head,
-    levels: &[u8],
-    beds: &[u16],
-    leaves: &[Leaf],
-    x: usize,
-    y: usize,
-    height: u8,
-) -> usize
-    requires valid { ValidBasin (basin_of head levels.now beds.now leaves.now) }
-    requires block { LiesIn (heading head) height x y }
-    ensures value { result ≡ length (node_bytes (view (basin_of head levels.now beds.now leaves.now)) height x y) }
+/// The bytes that a node takes.
+pub fn node_length(node: Node<'_>) -> usize
+    ensures value { result ≡ length (bytes_of node.entry) }
     ensures most { result ≤ 81920 }
 {
-    let here = place(head.side(), x, y);
-    if levels[here] > head.levels - height {
-        let below = height - 1;
-        let half = side(below);
-        let (east, north) = (x + half, y + half);
-        let sw = node_length(head, levels, beds, leaves, x, y, below);
-        let se = node_length(head, levels, beds, leaves, east, y, below);
-        let nw = node_length(head, levels, beds, leaves, x, north, below);
-        let ne = node_length(head, levels, beds, leaves, east, north, below);
-        1 + sw + se + nw + ne
-    } else {
-        1 + leaf_length(leaves[here])
+    match node.quarters() {
+        Some(Quarters { sw, se, nw, ne }) => {
+            1 + node_length(sw) + node_length(se) + node_length(nw) + node_length(ne)
+        }
+        None => 1 + leaf_length(node.leaf()),
     }
 }
 
-/// Writes the node of that block from entry `at` on, and answers the place after it.
-pub fn put_node(
-    out: &mut [u8],
-    at: usize,
-    head: Head,
-    levels: &[u8],
-    beds: &[u16],
-    leaves: &[Leaf],
-    x: usize,
-    y: usize,
-    height: u8,
-) -> usize
-    requires valid { ValidBasin (basin_of head levels.now beds.now leaves.now) }
-    requires block { LiesIn (heading head) height x y }
-    requires room { at + length (node_bytes (view (basin_of head levels.now beds.now leaves.now)) height x y) ≤ length out.old }
-    ensures place { result ≡ at + length (node_bytes (view (basin_of head levels.now beds.now leaves.now)) height x y) }
-    ensures bytes { out.new ≡ sets out.old at (node_bytes (view (basin_of head levels.now beds.now leaves.now)) height x y) }
+/// Writes a node.
+pub fn put_node(writer: &mut Writer<'_>, node: Node<'_>)
+    requires { Room (bytes_of node) writer.old }
+    ensures { Puts (bytes_of node.entry) writer.old writer.new }
 {
-    let here = place(head.side(), x, y);
-    if levels[here] > head.levels - height {
-        let below = height - 1;
-        let half = side(below);
-        let (east, north) = (x + half, y + half);
-        let sw_at = put_number(out, at, CUT);
-        let se_at = put_node(out, sw_at, head, levels, beds, leaves, x, y, below);
-        let nw_at = put_node(out, se_at, head, levels, beds, leaves, east, y, below);
-        let ne_at = put_node(out, nw_at, head, levels, beds, leaves, x, north, below);
-        put_node(out, ne_at, head, levels, beds, leaves, east, north, below)
-    } else {
-        let record_at = put_number(out, at, LEAF);
-        put_leaf(out, record_at, leaves[here])
+    match node.quarters() {
+        Some(Quarters { sw, se, nw, ne }) => {
+            writer.number(Mark::Cut as u64);
+            put_node(writer, sw);
+            put_node(writer, se);
+            put_node(writer, nw);
+            put_node(writer, ne);
+        }
+        None => {
+            writer.number(Mark::Leaf as u64);
+            put_leaf(writer, node.leaf());
+        }
     }
 }

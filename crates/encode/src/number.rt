@@ -1,12 +1,11 @@
-// Numbers in groups of seven bits, measured and written.
-ghost use Rattle.std.specs.Prelude.{◌≡◌, ◌+◌, ◌^◌, ◌<◌, ◌≤◌, length};
-ghost use Rattle.std.proofs.lemmas.List.Edits.{sets};
+// Numbers in groups of seven bits, measured.
+ghost use Rattle.std.specs.Prelude.{◌≡◌, ◌^◌, ◌<◌, ◌≤◌, length};
 ghost use Rattle.numbers.specs.Numbers.{number, coded};
 
-/// What a byte adds to its group when another group follows.
-const MORE: u64 = 128;
+use numbers::number::MORE;
 
 /// The number that stands for a signed one.
+// No `From`: both are plain numbers, and a type for the code would be unwrapped at each of its uses.
 pub fn to_coded(signed: i64) -> u64
     ensures { result ≡ coded signed }
 {
@@ -25,27 +24,10 @@ pub fn number_length(value: u64) -> usize
 {
     let mut rest = value;
     let mut length = 1;
+    // What is left of the number goes down here, and no index goes up.
     while rest >= MORE {
         rest /= MORE;
         length += 1;
     }
     length
-}
-
-/// Writes a number from entry `at` on, and answers the place after it.
-pub fn put_number(out: &mut [u8], at: usize, value: u64) -> usize
-    requires small { value < 2 ^ 42 }
-    requires room { at + length (number value) ≤ length out.old }
-    ensures place { result ≡ at + length (number value) }
-    ensures bytes { out.new ≡ sets out.old at (number value) }
-{
-    let mut rest = value;
-    let mut here = at;
-    while rest >= MORE {
-        out[here] = (rest % MORE + MORE) as u8;
-        rest /= MORE;
-        here += 1;
-    }
-    out[here] = rest as u8;
-    here + 1
 }

@@ -1,10 +1,11 @@
 // A leaf's record, measured and written.
-ghost use Rattle.std.specs.Prelude.{◌≡◌, ◌+◌, ◌≤◌, length};
-ghost use Rattle.std.proofs.lemmas.List.Edits.{sets};
+ghost use Rattle.std.specs.Prelude.{◌≡◌, ◌≤◌, length};
 ghost use Rattle.basin.specs.Records.{InRange};
 ghost use Rattle.nodes.specs.Written.{leaf_bytes};
+ghost use Rattle.encode.specs.Writers.{Room, Puts};
 
-use crate::number::{number_length, put_number, to_coded};
+use crate::number::{number_length, to_coded};
+use crate::writer::Writer;
 use basin::leaf::Leaf;
 
 /// The bytes that a record takes.
@@ -18,14 +19,13 @@ pub fn leaf_length(leaf: Leaf) -> usize
         + number_length(to_coded(leaf.north))
 }
 
-/// Writes a record from entry `at` on, and answers the place after it.
-pub fn put_leaf(out: &mut [u8], at: usize, leaf: Leaf) -> usize
+/// Writes a record.
+pub fn put_leaf(writer: &mut Writer<'_>, leaf: Leaf)
     requires small { InRange 4096 leaf }
-    requires room { at + length (leaf_bytes leaf) ≤ length out.old }
-    ensures place { result ≡ at + length (leaf_bytes leaf) }
-    ensures bytes { out.new ≡ sets out.old at (leaf_bytes leaf) }
+    requires room { Room (leaf_bytes leaf) writer.old }
+    ensures { Puts (leaf_bytes leaf) writer.old writer.new }
 {
-    let east_at = put_number(out, at, leaf.water as u64);
-    let north_at = put_number(out, east_at, to_coded(leaf.east));
-    put_number(out, north_at, to_coded(leaf.north))
+    writer.number(leaf.water as u64);
+    writer.number(to_coded(leaf.east));
+    writer.number(to_coded(leaf.north));
 }

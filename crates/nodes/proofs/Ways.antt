@@ -3,7 +3,7 @@ use Rattle.std.proofs.Common.{◌≡◌, ℕ, zero, suc, ◌+◌, ◌-◌, ◌*�
 use Rattle.std.proofs.lemmas.Bool.{ne_eqb}
 use Rattle.numbers.specs.declared.fault.NumberFault.{NumberFault}
 use Rattle.numbers.specs.Numbers.{number_at}
-use Rattle.numbers.proofs.Steps.{placed}
+use Rattle.numbers.proofs.Steps.{placed, not_placed}
 use Rattle.nodes.specs.declared.fault.TreeFault.{TreeFault}
 use Rattle.nodes.specs.declared.fault.TreeFault.TheVariants.{Number, Range}
 use Rattle.basin.specs.declared.leaf.Leaf.{Leaf}
@@ -97,3 +97,16 @@ place_four node at a b c r ea eb ec e =
     let q₂ = placed (node a) b eb in
     let q₃ = placed (node b) c ec in
     rw (q₁.1, q₂.1, q₃.1) (e ∙ place_last q₁.0 q₂.0 q₃.0 (node c))
+
+-- a fault in a quarter is the node's
+module _ (height : ℕ) (bs : List ℕ) (at : ℕ) (f : TreeFault) where
+  pub no_sw : Err f ≡ place (node_at height bs at) → quarters_at height bs at ≡ Err f
+  no_sw e = rw (not_placed (node_at height bs at) f e) refl
+
+  pub no_se : (a : ℕ) → Ok a ≡ place (node_at height bs at) → Err f ≡ place (node_at height bs a) → quarters_at height bs at ≡ Err f
+  no_se a ea e = rw ((placed (node_at height bs at) a ea).1, not_placed (node_at height bs a) f e) refl
+
+  pub no_nw : (a b : ℕ) → Ok a ≡ place (node_at height bs at) → Ok b ≡ place (node_at height bs a) → Err f ≡ place (node_at height bs b)
+      → quarters_at height bs at ≡ Err f
+  no_nw a b ea eb e =
+      rw ((placed (node_at height bs at) a ea).1, (placed (node_at height bs a) b eb).1, not_placed (node_at height bs b) f e) refl

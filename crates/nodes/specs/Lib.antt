@@ -2,3 +2,5 @@ pub mod Reports
 pub mod Trees
 pub mod Paint
 pub mod Written
+pub mod Marks
+pub mod Spots

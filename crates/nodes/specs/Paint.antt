@@ -1,9 +1,8 @@
 -- How a tree's leaves are put on their squares.
-use Rattle.std.specs.Prelude.{◌≡◌, ℕ, pred, ◌+◌, ◌-◌, ◌*◌, ◌^◌, ◌<◌, ◌≤◌, List, Ok, Err, Result}
+use Rattle.std.specs.Prelude.{◌≡◌, ℕ, pred, ◌+◌, ◌-◌, ◌*◌, List, Ok, Err, Result}
 use Rattle.basin.specs.declared.leaf.Leaf.{Leaf}
 use Rattle.basin.specs.Fills.{square}
 use Rattle.nodes.specs.declared.fault.TreeFault.{TreeFault}
-use Rattle.nodes.specs.declared.node.Spot.{Spot}
 use Rattle.nodes.specs.Trees.{Tree, one, four, side}
 
 -- once each leaf of a tree, whose corner is place p, has put its entry on its squares
@@ -26,19 +25,3 @@ level_of L height l = L - height
 
 abbrev pub record_of : ℕ → Leaf → Leaf
 record_of height l = l
-
--- a spot's block lies in both tables
-pub record Placed (s : Spot) (levels leaves : ℕ) : Type 0 where
-  pub deep : s.height ≤ s.levels
-  pub few : s.levels ≤ 6
-  pub side_is : s.side ≡ 2 ^ s.height
-  pub in_levels : s.corner + s.side * s.stride + s.side ≤ levels + s.stride
-  pub in_leaves : s.corner + s.side * s.stride + s.side ≤ leaves + s.stride
-
--- four blocks, two by two, lie in both tables, the first of them in the spot
-pub record PlacedFour (s : Spot) (levels leaves : ℕ) : Type 0 where
-  pub deep : s.height < s.levels
-  pub few : s.levels ≤ 6
-  pub side_is : s.side ≡ 2 ^ s.height
-  pub in_levels : s.corner + 2 * s.side * s.stride + 2 * s.side ≤ levels + s.stride
-  pub in_leaves : s.corner + 2 * s.side * s.stride + 2 * s.side ≤ leaves + s.stride

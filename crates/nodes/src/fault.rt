@@ -20,11 +20,20 @@ pub enum TreeFault {
 
 impl TreeFault {
     /// The refusal, byte and layer of this fault.
+    // `From` under a name, which programs call with no type to write.
     pub fn report(self) -> Report
         ensures { result ≡ tree_report self }
     {
-        match self {
-            TreeFault::Number(fault) => fault.report(),
+        Report::from(self)
+    }
+}
+
+impl From<TreeFault> for Report {
+    ghost from_gives = { λ f r. r ≡ tree_report f };
+
+    fn from(fault: TreeFault) -> Report {
+        match fault {
+            TreeFault::Number(fault) => Report::from(fault),
             TreeFault::Range(byte) => Report::new(Refusal::FileRange, byte, Layer::Tree),
             TreeFault::Unbalanced(byte) => Report::new(Refusal::NotABasin, byte, Layer::Tree),
         }

@@ -2,6 +2,8 @@
 #![tactic(auto)]
 
 pub mod fault;
+pub mod mark;
 pub mod node;
 pub mod paint;
 pub mod record;
+pub mod spot;

@@ -1,123 +1,47 @@
-// Nodes and quarters, which call each other.
-ghost use Rattle.std.specs.Prelude.{◌≡◌, ◌+◌, length};
-ghost use Rattle.numbers.specs.Steps.{place};
-ghost use Rattle.nodes.specs.Trees.{node_at, quarters_at};
-ghost use Rattle.nodes.specs.Paint.{Drawn, level_of, record_of, Placed, PlacedFour};
+// The nodes of a tree, one after another.
+ghost use Rattle.std.specs.Prelude.{◌*◌, ◌^◌, ◌≤◌, length};
+ghost use Rattle.numbers.specs.Readers.{Passes};
+ghost use Rattle.nodes.specs.Trees.{node_at};
+ghost use Rattle.nodes.specs.Paint.{Drawn, level_of, record_of};
+ghost use Rattle.nodes.specs.Spots.{corner_of};
 
 use crate::fault::TreeFault;
-use crate::paint::fill_block;
+use crate::mark::Mark;
 use crate::record::read_leaf;
+use crate::spot::Spot;
 use basin::leaf::Leaf;
-use numbers::number::read_number;
+use numbers::reader::Reader;
 
-/// A leaf, with its squares undivided.
-const LEAF: u64 = 0;
-
-/// A node cut into four quarters.
-const CUT: u64 = 1;
-
-/// Where a node's block lies in the tables.
-#[derive(Clone, Copy)]
-pub struct Spot {
-    /// The entry of its south-west square.
-    pub corner: usize,
-    /// The levels below it.
-    pub height: u8,
-    /// The squares along its side, 2^height.
-    pub side: usize,
-    /// The squares along a side of the basin.
-    pub stride: usize,
-    /// The levels of the basin.
-    pub levels: u8,
-}
-
-/// Reads the node at `at` into its spot of both tables, and answers the place after it.
-#[cycle(read_node_read_quarters)]
+/// Reads the node that comes next into its spot of both tables.
 pub fn read_node(
-    bytes: &[u8],
-    at: usize,
+    reader: &mut Reader<'_>,
     spot: Spot,
     levels: &mut [u8],
     leaves: &mut [Leaf],
-) -> Result<usize, TreeFault>
-    requires { Placed spot (length levels.old) (length leaves.old) }
-    ensures next { result ≡ place (node_at spot.height bytes.now at) }
-    ensures levels { Drawn (level_of spot.levels) spot.stride spot.height spot.corner (node_at spot.height bytes.now at) levels.old levels.new }
-    ensures leaves { Drawn record_of spot.stride spot.height spot.corner (node_at spot.height bytes.now at) leaves.old leaves.new }
+) -> Result<(), TreeFault>
+    requires levels { 2 ^ spot.levels * 2 ^ spot.levels ≤ length levels.old }
+    requires leaves { 2 ^ spot.levels * 2 ^ spot.levels ≤ length leaves.old }
+    ensures next { Passes (node_at spot.height) reader.old reader.new result }
+    ensures levels { Drawn (level_of spot.levels) (2 ^ spot.levels) spot.height (corner_of spot) (node_at spot.height reader.old.bytes.now reader.old.at) levels.old levels.new }
+    ensures leaves { Drawn record_of (2 ^ spot.levels) spot.height (corner_of spot) (node_at spot.height reader.old.bytes.now reader.old.at) leaves.old leaves.new }
 {
-    let (mark, next) = read_number(bytes, at)?;
-    if mark == LEAF {
-        let (leaf, end) = read_leaf(bytes, next, spot.side * spot.side)?;
-        fill_block(
-            levels,
-            spot.corner,
-            spot.side,
-            spot.stride,
-            spot.levels - spot.height,
-        );
-        fill_block(leaves, spot.corner, spot.side, spot.stride, leaf);
-        Ok(end)
-    } else if mark == CUT && spot.height > 0 {
-        read_quarters(
-            bytes,
-            next,
-            Spot {
-                height: spot.height - 1,
-                side: spot.side / 2,
-                ..spot
-            },
-            levels,
-            leaves,
-        )
-    } else {
-        Err(TreeFault::Range(at))
+    let at = reader.at;
+    match Mark::try_from(reader.number()?) {
+        Ok(Mark::Leaf) => {
+            let leaf = read_leaf(reader, spot.side() * spot.side())?;
+            spot.fill(levels, spot.levels - spot.height);
+            spot.fill(leaves, leaf);
+            Ok(())
+        }
+        Ok(Mark::Cut) => {
+            let Some(quarters) = spot.quarters() else {
+                return Err(TreeFault::Range(at));
+            };
+            read_node(reader, quarters.sw, levels, leaves)?;
+            read_node(reader, quarters.se, levels, leaves)?;
+            read_node(reader, quarters.nw, levels, leaves)?;
+            read_node(reader, quarters.ne, levels, leaves)
+        }
+        Err(_) => Err(TreeFault::Range(at)),
     }
-}
-
-/// Reads four nodes, south-west, south-east, north-west and north-east, the first of them into `spot`.
-#[cycle(read_node_read_quarters)]
-fn read_quarters(
-    bytes: &[u8],
-    at: usize,
-    spot: Spot,
-    levels: &mut [u8],
-    leaves: &mut [Leaf],
-) -> Result<usize, TreeFault>
-    requires { PlacedFour spot (length levels.old) (length leaves.old) }
-    ensures next { result ≡ place (quarters_at spot.height bytes.now at) }
-    ensures levels { Drawn (level_of spot.levels) spot.stride (spot.height + 1) spot.corner (quarters_at spot.height bytes.now at) levels.old levels.new }
-    ensures leaves { Drawn record_of spot.stride (spot.height + 1) spot.corner (quarters_at spot.height bytes.now at) leaves.old leaves.new }
-{
-    let north = spot.corner + spot.side * spot.stride;
-    let sw = read_node(bytes, at, spot, levels, leaves)?;
-    let se = read_node(
-        bytes,
-        sw,
-        Spot {
-            corner: spot.corner + spot.side,
-            ..spot
-        },
-        levels,
-        leaves,
-    )?;
-    let nw = read_node(
-        bytes,
-        se,
-        Spot {
-            corner: north,
-            ..spot
-        },
-        levels,
-        leaves,
-    )?;
-    read_node(
-        bytes,
-        nw,
-        Spot {
-            corner: north + spot.side,
-            ..spot
-        },
-        levels,
-        leaves,
-    )
 }

@@ -1,34 +1,37 @@
 // A leaf's record in the file.
-ghost use Rattle.std.specs.Prelude.{◌≡◌, ◌≤◌};
+ghost use Rattle.std.specs.Prelude.{◌≤◌};
+ghost use Rattle.numbers.specs.Readers.{Reads};
 ghost use Rattle.nodes.specs.Trees.{discharge_at, leaf_at};
 
 use crate::fault::TreeFault;
 use basin::leaf::{Leaf, may_hold, may_run};
-use numbers::number::{read_number, read_signed};
+use numbers::reader::Reader;
 
-/// The discharge that begins at `at`, of a leaf that holds `water`.
-fn read_discharge(bytes: &[u8], at: usize, water: u32) -> Result<(i64, usize), TreeFault>
-    ensures { result ≡ discharge_at bytes.now at water }
+/// The discharge that comes next, of a leaf that holds `water`.
+fn read_discharge(reader: &mut Reader<'_>, water: u32) -> Result<i64, TreeFault>
+    ensures { Reads (λ bs at. discharge_at bs at water) reader.old reader.new result }
 {
-    let (discharge, next) = read_signed(bytes, at)?;
+    let at = reader.at;
+    let discharge = reader.signed()?;
     if may_run(water, discharge) {
-        Ok((discharge, next))
+        Ok(discharge)
     } else {
         Err(TreeFault::Range(at))
     }
 }
 
-/// The record that begins at `at`, of a leaf of `area` squares.
-pub fn read_leaf(bytes: &[u8], at: usize, area: usize) -> Result<(Leaf, usize), TreeFault>
+/// The record that comes next, of a leaf of `area` squares.
+pub fn read_leaf(reader: &mut Reader<'_>, area: usize) -> Result<Leaf, TreeFault>
     requires { area ≤ 4096 }
-    ensures { result ≡ leaf_at bytes.now at area }
+    ensures { Reads (λ bs at. leaf_at bs at area) reader.old reader.new result }
 {
-    let (water, east_at) = read_number(bytes, at)?;
+    let at = reader.at;
+    let water = reader.number()?;
     if !may_hold(area, water) {
         return Err(TreeFault::Range(at));
     }
     let water = water as u32;
-    let (east, north_at) = read_discharge(bytes, east_at, water)?;
-    let (north, end) = read_discharge(bytes, north_at, water)?;
-    Ok((Leaf { water, east, north }, end))
+    let east = read_discharge(reader, water)?;
+    let north = read_discharge(reader, water)?;
+    Ok(Leaf { water, east, north })
 }

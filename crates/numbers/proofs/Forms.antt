@@ -6,16 +6,16 @@ use Rattle.numbers.specs.declared.fault.NumberFault.{NumberFault}
 use Rattle.numbers.specs.declared.fault.NumberFault.TheVariants.{Ended, Malformed}
 use Rattle.numbers.specs.Numbers.{groups_at, number_at, groups, number, signed, coded}
 use Rattle.numbers.specs.Laws.{Bytes, WrittenIsRead, ReadWasWritten}
-use Rattle.numbers.proofs.Groups.{ended, padded, done, more}
+use Rattle.numbers.proofs.Groups.{Byte, ended, padded, done, more}
 
 -- what stands at the head of the rest of a list
-pub head_of : (bs : List ℕ) (at x : ℕ) (ys : List ℕ) → drop at bs ≡ x ∷ ys → (at < length bs) × (get_or bs at 0 ≡ x) × (drop (at + 1) bs ≡ ys)
+pub head_of : (bs : List ℕ) (at x : ℕ) (ys : List ℕ) → drop at bs ≡ x ∷ ys → Byte bs at x × (drop (at + 1) bs ≡ ys)
 head_of [] zero x ys e = let z : ◌≡◌ {A = ℕ} 0 1 = cc in absurd (omega arith)
 head_of [] (suc at) x ys e = let z : ◌≡◌ {A = ℕ} 0 1 = cc in absurd (omega arith)
-head_of (b ∷ bs) zero x ys e = let h : b ≡ x = cc in let t : bs ≡ ys = cc in (omega arith, h, t)
+head_of (b ∷ bs) zero x ys e = let h : b ≡ x = cc in let t : bs ≡ ys = cc in (record { inside = omega arith; is = sym h }, t)
 head_of (b ∷ bs) (suc at) x ys e =
     let r = head_of bs at x ys e in
-    (omega arith, r.1, rw add-one (rw add-one at r.2))
+    (record { inside = omega (arith, r.0.inside); is = r.0.is }, rw add-one (rw add-one at r.1))
 
 drop_more : (bs : List ℕ) (at : ℕ) → at < length bs → drop at bs ≡ get_or bs at 0 ∷ drop (at + 1) bs
 drop_more bs at l = rw add-one (drop-cons bs at 0 l)
@@ -49,7 +49,7 @@ groups_back (suc k) bs post start at acc unit v h s p e = ⊎_elim last (rest (g
     last l =
         let g = groups_last k v l in
         let r = head_of bs at v post (rw g at e) in
-        rw g (sym (rw r.1 at (done (suc k) bs start at acc unit (omega arith) r.0 (rw r.1 l) (λ z b. s b (sym r.1 ∙ z)))), r.2)
+        rw g (sym (done (suc k) bs start at acc unit v (omega arith) r.0 l (λ z b. s b z)), r.1)
 
     rest : Back k → 128 ≤ v → Goal
     rest back l =
@@ -58,10 +58,10 @@ groups_back (suc k) bs post start at acc unit v h s p e = ⊎_elim last (rest (g
         let h' = rw pow-suc at h in
         let hw : v / 128 < 128 ^ k = omega arith in
         let hk = positive k (v / 128) hw (omega arith) in
-        let ih = back bs post start (at + 1) (acc + unit * (v % 128)) (unit * 128) (v / 128) hw (λ _ z. omega arith) hk r.2 in
+        let ih = back bs post start (at + 1) (acc + unit * (v % 128)) (unit * 128) (v / 128) hw (λ _ z. omega arith) hk r.1 in
         let sk : suc k - 1 ≡ k = omega arith in
-        let bv : get_or bs at 0 - 128 ≡ v % 128 = omega arith in
-        let m = rw (sk, bv) at (more (suc k) bs start at acc unit (omega arith) r.0 (omega arith)) in
+        let bv : v % 128 + 128 - 128 ≡ v % 128 = omega arith in
+        let m = rw (sk, bv) at (more (suc k) bs start at acc unit (v % 128 + 128) (omega arith) r.0 (omega arith)) in
         let value : acc + unit * (v % 128) + unit * 128 * (v / 128) ≡ acc + unit * v =
         omega (arith, ap (λ n. unit * n) (div-add-mod v 128), mul-add unit (128 * (v / 128)) (v % 128), mul_assoc unit 128 (v / 128)) in
         let place : at + 1 + length (groups k (v / 128)) ≡ at + suc (length (groups k (v / 128))) = omega arith in
@@ -97,8 +97,8 @@ groups_form (suc k) bs start at acc unit w q small o e =
 
     last : at < length bs → get_or bs at 0 < 128 → Goal
     last l b =
-        let n : get_or bs at 0 ≡ 0 → start < at → ⊥ = λ z s. never (Malformed start) (padded (suc k) bs start at acc unit (omega arith) l z s) in
-        let d = done (suc k) bs start at acc unit (omega arith) l b n ∙ e in
+        let n : get_or bs at 0 ≡ 0 → start < at → ⊥ = λ z s. never (Malformed start) (padded (suc k) bs start at acc unit _ (omega arith) (record { inside = l; is = refl }) z s) in
+        let d = done (suc k) bs start at acc unit _ (omega arith) (record { inside = l; is = refl }) b n ∙ e in
         let pe : ◌≡◌ {A = ℕ × ℕ} (acc + unit * get_or bs at 0, at + 1) (w, q) = cc d in
         let qe : at + 1 ≡ q = ap (λ (p : ℕ × ℕ). p.1) pe in (
           get_or bs at 0,
@@ -110,7 +110,7 @@ groups_form (suc k) bs start at acc unit w q small o e =
     rest : Form k → at < length bs → 128 ≤ get_or bs at 0 → Goal
     rest form l b =
         let sk : suc k - 1 ≡ k = omega arith in
-        let m = rw sk at (more (suc k) bs start at acc unit (omega arith) l b) in
+        let m = rw sk at (more (suc k) bs start at acc unit _ (omega arith) (record { inside = l; is = refl }) b) in
         let ih = form bs start (at + 1) (acc + unit * (get_or bs at 0 - 128)) (unit * 128) w q small (omega arith) (sym m ∙ e) in
         let x : ℕ = get_or bs at 0 - 128 + 128 * ih.0 in
         let nz : ih.0 ≡ 0 → ⊥ = ih.3 (omega arith) in

@@ -16,10 +16,19 @@ pub enum NumberFault {
 
 impl NumberFault {
     /// The refusal, byte and layer of this fault.
+    // `From` under a name, which programs call with no type to write.
     pub fn report(self) -> Report
         ensures { result ≡ number_report self }
     {
-        match self {
+        Report::from(self)
+    }
+}
+
+impl From<NumberFault> for Report {
+    ghost from_gives = { λ f r. r ≡ number_report f };
+
+    fn from(fault: NumberFault) -> Report {
+        match fault {
             NumberFault::Ended(byte) => Report::new(Refusal::FileEnded, byte, Layer::Numbers),
             NumberFault::Malformed(byte) => Report::new(Refusal::NumberForm, byte, Layer::Numbers),
         }

@@ -3,4 +3,5 @@
 
 pub mod fault;
 pub mod number;
+pub mod reader;
 pub mod report;

@@ -1,55 +1,49 @@
 // Numbers in groups of seven bits, the lowest group first.
 ghost use Rattle.std.specs.Prelude.{◌≡◌};
-ghost use Rattle.numbers.specs.Numbers.{number_at, signed, signed_at};
+ghost use Rattle.numbers.specs.Numbers.{number_at, signed};
 ghost use Rattle.numbers.specs.Laws.{WrittenIsRead, ReadWasWritten, SignedIsCoded};
 
 use crate::fault::NumberFault;
 
 /// The most groups that a number has.
-const GROUPS: u8 = 6;
+const GROUPS: usize = 6;
 
-/// What a byte adds to its group when another group follows.
-const MORE: u8 = 128;
+/// What a byte adds to its group when another group follows, and how many times what the group before it weighs a group weighs.
+pub const MORE: u64 = 128;
 
 /// The number that begins at `at`, and the place after it.
+// Of bytes and a place, as its definition is: a reader's methods stand on it.
 pub fn read_number(bytes: &[u8], at: usize) -> Result<(u64, usize), NumberFault>
     ensures { result ≡ number_at bytes.now at }
 {
+    let rest = bytes.get(at..).unwrap_or(&[]);
+    let groups = &rest[..rest.len().min(GROUPS)];
     let mut value: u64 = 0;
     let mut unit: u64 = 1;
-    let mut here = at;
-    for k in 0..GROUPS {
-        if here >= bytes.len() {
-            return Err(NumberFault::Ended(at));
-        }
-        let byte = bytes[here];
+    for (k, byte) in groups.iter().enumerate() {
+        let byte = u64::from(*byte);
         if byte < MORE {
             if byte == 0 && k > 0 {
                 return Err(NumberFault::Malformed(at));
             }
-            return Ok((value + unit * byte as u64, here + 1));
+            return Ok((value + unit * byte, at + k + 1));
         }
-        value += unit * (byte - MORE) as u64;
-        unit *= 128;
-        here += 1;
+        value += unit * (byte - MORE);
+        unit *= MORE;
+    }
+    if groups.len() < GROUPS {
+        return Err(NumberFault::Ended(at));
     }
     Err(NumberFault::Malformed(at))
 }
 
 /// The signed number that a number of the file stands for: even ones for 0, 1, 2 .., odd ones for -1, -2 ..
-fn to_signed(coded: u64) -> i64
+// No `From`: both are plain numbers, and a type for the code would be unwrapped at its one use.
+pub fn to_signed(coded: u64) -> i64
     ensures { result ≡ signed coded }
 {
     let half = (coded / 2) as i64;
     if coded % 2 == 0 { half } else { -1 - half }
-}
-
-/// The signed number that begins at `at`, and the place after it.
-pub fn read_signed(bytes: &[u8], at: usize) -> Result<(i64, usize), NumberFault>
-    ensures { result ≡ signed_at bytes.now at }
-{
-    let (coded, next) = read_number(bytes, at)?;
-    Ok((to_signed(coded), next))
 }
 
 /// Numbers have one form: what is written is read back, what is read was written so, and signed numbers stand for one another's codes.
@@ -65,10 +59,7 @@ mod tests {
 
     // Whether the bytes begin with this number and hold nothing else.
     fn is_number(bytes: &[u8], value: u64) -> bool {
-        match read_number(bytes, 0) {
-            Ok((read, end)) => read == value && end == bytes.len(),
-            Err(_) => false,
-        }
+        read_number(bytes, 0) == Ok((value, bytes.len()))
     }
 
     #[test]
@@ -79,13 +70,12 @@ mod tests {
             "the largest"
         );
         assert!(rt;
-            read_number(&[255; 7], 0).err() == Some(NumberFault::Malformed(0)),
+            read_number(&[255; 7], 0) == Err(NumberFault::Malformed(0)),
             "too long"
         );
         assert!(rt;
-            read_number(&[0x80, 0], 0).err() == Some(NumberFault::Malformed(0)),
+            read_number(&[0x80, 0], 0) == Err(NumberFault::Malformed(0)),
             "not shortest"
         );
-        assert!(rt; read_signed(&[5], 0).ok() == Some((-3, 1)), "minus three");
     }
 }

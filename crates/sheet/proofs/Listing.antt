@@ -1,43 +1,47 @@
--- The lines of a block that is cut, and of one that is a leaf.
-use Rattle.std.proofs.Common.{◌≡◌, ℕ, zero, suc, ◌+◌, ◌-◌, ◌*◌, ◌^◌, ◌<◌, ◌≤◌, List, [], ◌∷◌, ◌++◌, get_or, IfOk, Result, refl, ap, ◌∙◌, append_assoc, pow-suc, arith}
+-- The lines of a node that is cut, and of one that is a leaf.
+use Rattle.std.proofs.Common.{◌≡◌, ℕ, zero, suc, ◌+◌, ◌-◌, ◌^◌, ◌<◌, ◌≤◌, List, [], ◌∷◌, ◌++◌, IfOk, Result, refl, ap, ◌∙◌, append_assoc, arith}
 use Rattle.std.proofs.lemmas.Result.{IfOk-weaker}
 use Rattle.std.proofs.lemmas.Bool.{lt-ltb, le-ltb}
-use Rattle.basin.specs.Basins.{Basin, side, view, ValidBasin}
+use Rattle.basin.specs.Basins.{view}
 use Rattle.basin.specs.Views.{View}
-use Rattle.basin.proofs.Sizes.{side_pos}
+use Rattle.basin.specs.declared.quarters.Quarters.{Quarters}
+use Rattle.tables.specs.Surveys.{surveyed}
+use Rattle.encode.specs.declared.tree.Node.{Node}
+use Rattle.encode.specs.Nodes.{IsLeaf, IsCut}
+use Rattle.encode.proofs.Nodes.{part_is}
+use Rattle.sheet.specs.declared.line.Line.{Line}
 use Rattle.sheet.specs.Lines.{line, lines_at}
 
-halves : (h : ℕ) → 0 < h → 2 ^ h ≡ 2 ^ (h - 1) + 2 ^ (h - 1)
-halves zero p = absurd (omega arith)
-halves (suc h) p = let e : suc h - 1 ≡ h = omega arith in rw e (omega (arith, pow-suc 2 h))
+-- the lines of a node
+abbrev pub lines_of : Node → List Line
+lines_of n = lines_at (view (surveyed n.survey.now)) n.spot.height n.spot.x n.spot.y
 
--- the block with h levels below it at (x, y) is no leaf
-pub record Cut (v : View) (h x y : ℕ) : Type 0 where
-  pub high : 0 < h
-  pub halves : 2 ^ h ≡ 2 ^ (h - 1) + 2 ^ (h - 1)
-  pub deeper : v.L - h < v.level x y
-
--- so it is where the level at the square's place p, in a basin of side n, is deeper than the block's own
-pub cut_by : (b : Basin) (h x y n p : ℕ) → ValidBasin b → n ≡ side b.head → p ≡ y * n + x
-    → x + 2 ^ h ≤ side b.head → y + 2 ^ h ≤ side b.head → b.head.L - h < get_or b.tables.levels p 0 → Cut (view b) h x y
-cut_by b h x y n p valid en ep ex ey deep =
-    let here : p ≡ y * side b.head + x = ep ∙ ap (λ k. y * k + x) en in
-    let deep' : b.head.L - h < (view b).level x y = rw here at deep in
-    let low = valid.squares.quadtree.shallow x y (omega (arith, side_pos h)) (omega (arith, side_pos h)) in
-    let high : 0 < h = omega arith in
-    record { high = high; halves = halves h high; deeper = deep' }
-
-pub lines_cut : (v : View) (h x y s : ℕ) → s ≡ 2 ^ (h - 1) → Cut v h x y
+lines_cut : (v : View) (h x y s : ℕ) → 0 < h → s ≡ 2 ^ (h - 1) → v.L - h < v.level x y
     → lines_at v h x y
     ≡ lines_at v (h - 1) x y ++ (lines_at v (h - 1) (x + s) y ++ (lines_at v (h - 1) x (y + s) ++ lines_at v (h - 1) (x + s) (y + s)))
 unfolding lines_at
-lines_cut v zero x y s e c = absurd (omega (arith, c.high))
-lines_cut v (suc h) x y s e c = let k : suc h - 1 ≡ h = omega arith in rw (lt-ltb (v.L - suc h) (v.level x y) c.deeper, e, k) refl
+lines_cut v zero x y s p e l = absurd (omega arith)
+lines_cut v (suc h) x y s p e l = let k : suc h - 1 ≡ h = omega arith in rw (lt-ltb (v.L - suc h) (v.level x y) l, e, k) refl
 
-pub lines_leaf : (v : View) (h x y : ℕ) → v.level x y ≤ v.L - h → lines_at v h x y ≡ line v x y ∷ []
+lines_leaf : (v : View) (h x y : ℕ) → v.level x y ≤ v.L - h → lines_at v h x y ≡ line v x y ∷ []
 unfolding lines_at
 lines_leaf v zero x y l = refl
 lines_leaf v (suc h) x y l = rw (le-ltb (v.L - suc h) (v.level x y) l) refl
+
+pub cut_is : (n : Node) {q : Quarters Node} → IsCut n q → lines_of n ≡ lines_of q.sw ++ (lines_of q.se ++ (lines_of q.nw ++ lines_of q.ne))
+cut_is n {q} c =
+    let below : q.sw.spot.height ≡ n.spot.height - 1 = omega (arith, c.sw.spot.height) in
+    let s = 2 ^ q.sw.spot.height in
+    rw (
+      ← part_is n lines_at c.sw n.spot.x n.spot.y (omega arith) (omega arith),
+      ← part_is n lines_at c.se (n.spot.x + s) n.spot.y refl (omega arith),
+      ← part_is n lines_at c.nw n.spot.x (n.spot.y + s) (omega arith) refl,
+      ← part_is n lines_at c.ne (n.spot.x + s) (n.spot.y + s) refl refl,
+    )
+    (lines_cut (view (surveyed n.survey.now)) n.spot.height n.spot.x n.spot.y s (omega (arith, c.sw.spot.height)) (ap (λ k. 2 ^ k) below) c.deep)
+
+pub leaf_is : (n : Node) → IsLeaf n → lines_of n ≡ line (view (surveyed n.survey.now)) n.spot.x n.spot.y ∷ []
+leaf_is n low = lines_leaf (view (surveyed n.survey.now)) n.spot.height n.spot.x n.spot.y low
 
 -- four lists added one after another, the last by a call that may fail
 pub added_four : {A T E : Type 0} (r : Result T E) (l₀ l₁ l₂ l₃ l₄ a b c d all : List A)

@@ -1,13 +1,17 @@
 // A leaf's line.
-ghost use Rattle.std.specs.Prelude.{◌≡◌, ◌<◌, [], ◌∷◌, Some};
+ghost use Rattle.std.specs.Prelude.{◌≡◌, [], ◌∷◌, Some};
 ghost use Rattle.std.specs.Fmt.{decimal, signed_decimal};
 ghost use Rattle.std.specs.List.{join_with_byte};
-ghost use Rattle.basin.specs.Basins.{heading, side, basin_of, view, ValidBasin};
+ghost use Rattle.basin.specs.Basins.{view};
+ghost use Rattle.tables.specs.Surveys.{surveyed};
 ghost use Rattle.sheet.specs.Lines.{line};
 
-use basin::size::{place, side};
-use kaftanore::{Head, Leaf};
+use basin::size::side;
+use basin::square::Square;
+use encode::tree::Node;
+use kaftanore::Leaf;
 use looks::surface::surface_at;
+use nodes::spot::Spot;
 use std::fmt;
 
 /// What the sheet says of a leaf: its south-west square, its side, its surface number, and its record.
@@ -35,17 +39,16 @@ impl fmt::Display for Line {
     }
 }
 
-/// The line of the leaf whose south-west square is (x, y).
-pub fn line_at(head: Head, levels: &[u8], beds: &[u16], leaves: &[Leaf], x: usize, y: usize) -> Line
-    requires valid { ValidBasin (basin_of head levels.now beds.now leaves.now) }
-    requires east { x < side (heading head) }
-    requires north { y < side (heading head) }
-    ensures { result ≡ line (view (basin_of head levels.now beds.now leaves.now)) x y }
+/// The line of the leaf that a node of the tree is.
+pub fn line_at(node: Node<'_>) -> Line
+    ensures { result ≡ line (view (surveyed node.entry.survey.now)) node.entry.spot.x node.entry.spot.y }
 {
-    let here = place(head.side(), x, y);
-    let side = side(head.levels - levels[here]);
-    let surface = surface_at(head, levels, beds, leaves, x, y);
-    let Leaf { water, east, north } = leaves[here];
+    let Spot { x, y, .. } = node.spot;
+    let head = node.survey.head;
+    let side = side(head.levels - node.level());
+    let n = head.side();
+    let surface = surface_at(node.survey, Square { x, y, n });
+    let Leaf { water, east, north } = node.leaf();
     Line {
         x,
         y,

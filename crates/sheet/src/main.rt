@@ -1,31 +1,23 @@
 // The sheet of a basin file: its head, and a line for each leaf.
 #![tactic(auto)]
 
-ghost use Rattle.basin.specs.Basins.{basin_of, ValidBasin};
-
 mod line;
 mod list;
 
 use crate::list::list;
-use kaftanore::{Head, Leaf, read, table_length};
+use kaftanore::{Leaf, read, table_length};
 use std::io;
 use std::io::Read;
+use tables::survey::Survey;
 
 /// The bytes of the input that are looked at: more than the file of any basin has.
 const MOST_BYTES: u64 = 72_000;
 
 /// Prints the head and a line for each leaf.
-fn print_sheet(
-    rt: &HostRuntime,
-    head: Head,
-    levels: &[u8],
-    beds: &[u16],
-    leaves: &[Leaf],
-) -> io::Result<()>
-    requires { ValidBasin (basin_of head levels.now beds.now leaves.now) }
-{
+fn print_sheet(rt: &HostRuntime, survey: &Survey<'_>) -> io::Result<()> {
+    let head = survey.head;
     println!(rt; "{} {} {}", head.side(), head.width, head.loose)?;
-    let lines = list(rt.alloc(), head, levels, beds, leaves)?;
+    let lines = list(rt.alloc(), survey)?;
     for line in &lines {
         println!(rt; "{line}")?;
     }
@@ -41,7 +33,15 @@ fn main(rt: HostRuntime) -> io::Result<()> {
     let mut beds = vec![in rt.alloc(); 0; squares]?;
     let mut leaves = vec![in rt.alloc(); Leaf::DRY; squares]?;
     match read(&bytes, &mut levels, &mut beds, &mut leaves) {
-        Ok(head) => print_sheet(&rt, head, &levels, &beds, &leaves),
+        Ok(head) => print_sheet(
+            &rt,
+            &Survey {
+                head,
+                levels: &levels,
+                beds: &beds,
+                leaves: &leaves,
+            },
+        ),
         Err(fault) => println!(&rt; "refused {}", fault.report()),
     }
 }

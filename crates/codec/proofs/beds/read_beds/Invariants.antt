@@ -4,5 +4,6 @@ use Rattle.codec.proofs.beds.read_beds.Given as goal
 
 abbrev pub invariant-loop-bed : goal.invariant-loop-bed
 invariant-loop-bed l =
-    beds_at (length l.initial.beds) l.bytes l.at
-    ≡ beds_from (length l.initial.beds - l.bed-index) l.bytes l.here (take l.bed-index l.beds)
+    (l.reader.bytes ≡ l.initial.reader.bytes)
+    × (beds_at (length l.initial.beds) l.initial.reader.bytes.now l.initial.reader.at
+    ≡ beds_from (length l.initial.beds - l.bed-index) l.initial.reader.bytes.now l.reader.at (take l.bed-index l.beds))

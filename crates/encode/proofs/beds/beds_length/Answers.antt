@@ -1,15 +1,18 @@
--- Each turn counts one bed.
-use Rattle.std.proofs.Common.{refl, arith}
-use Rattle.encode.proofs.Bedding.{passed_more, passed_all}
+-- The beds' bytes are those of each together.
+use Rattle.std.proofs.Common.{◌≡◌, length, sym, ◌∙◌, arith, rules, tests}
+use Rattle.std.proofs.lemmas.Iterator.{YieldsList-from_slice, YieldsList-from_map}
+use Rattle.std.proofs.lemmas.Iterator.Consumers.{sum_by_from_yields_List}
+use Rattle.numbers.specs.Numbers.{number}
+use Rattle.encode.specs.Bytes.{beds_bytes}
+use Rattle.encode.proofs.Bedding.{bytes_sum, bytes_few}
 use Rattle.encode.proofs.beds.beds_length.Goals as goal
+use Rattle.encode.proofs.beds.beds_length.Goals.{After-sum}
 
-pub loop-bed-init : goal.loop-bed-init
-loop-bed-init c = (record { ends = refl }, omega arith)
-
-pub loop-bed-preserved : goal.loop-bed-preserved
-loop-bed-preserved c =
-    (rw c.number_length-length.ensures.value (passed_more _ _ _ _ (omega arith) c.loop-bed.invariant.0), omega (arith, c.number_length-length.ensures.most))
+all : (c : After-sum) → c.sum.result ≡ length (beds_bytes c.args.beds.now)
+all c =
+    sum_by_from_yields_List (λ b. length (number b)) c.args.beds.now c.map.result _ c.sum.ensures.ran
+    (YieldsList-from_map _ (λ b. length (number b)) (YieldsList-from_slice c.args.beds.now (cc)) c.map.ensures.closure (λ x r q k. search (rules, tests)))
+    ∙ sym (bytes_sum c.args.beds.now)
 
 pub returns : goal.returns
-returns c =
-    record { value = omega (arith, passed_all _ _ _ _ (omega arith) c.loop-bed.invariant.0); most = omega arith }
+returns c = record { value = all c; most = omega (arith, all c, bytes_few c.args.beds.now) }

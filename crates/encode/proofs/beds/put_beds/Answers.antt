@@ -1,22 +1,16 @@
 -- Each turn writes one bed.
-use Rattle.std.proofs.Common.{refl, arith}
-use Rattle.encode.proofs.Bedding.{passed_all, passed_room, laid_more, laid_all}
+use Rattle.std.proofs.Common.{arith}
+use Rattle.encode.proofs.Bedding.{bytes_cut, bytes_more, bytes_none}
+use Rattle.encode.proofs.Puts.{then, first, second}
 use Rattle.encode.proofs.beds.put_beds.Goals as goal
 
 pub loop-bed-init : goal.loop-bed-init
-loop-bed-init c = record { passed = record { ends = refl }; bytes = refl }
+loop-bed-init c = bytes_none c.args.writer.now
 
-pub put_number-here-requires : goal.put_number-here-requires
-put_number-here-requires c =
-    record { small = omega arith; room = omega (arith, passed_room _ _ _ _ _ (omega arith) c.loop-bed.invariant.passed c.requires) }
+pub number-requires-clause-room : goal.number-requires-clause-room
+number-requires-clause-room c =
+    rw c.from.ensures (first _ (second (rw (bytes_cut c.args.beds.now c.loop-bed.bed-index (omega arith)) at c.requires) c.loop-bed.invariant))
 
 pub loop-bed-preserved : goal.loop-bed-preserved
 loop-bed-preserved c =
-    rw (c.put_number-here.ensures.place, c.put_number-here.ensures.bytes) (laid_more _ _ _ _ _ _ (omega arith) c.loop-bed.invariant)
-
-pub returns : goal.returns
-returns c =
-    record {
-      place = passed_all _ _ _ _ (omega arith) c.loop-bed.invariant.passed;
-      bytes = laid_all _ _ _ _ _ _ (omega arith) c.loop-bed.invariant;
-    }
+    rw (bytes_more c.args.beds.now c.loop-bed.bed-index (omega arith)) (then c.loop-bed.invariant (rw c.from.ensures at c.number.ensures))

@@ -1,40 +1,31 @@
 -- The parts of the file, one after another.
-use Rattle.std.proofs.Common.{arith}
-use Rattle.basin.specs.Basins.{basin_of}
-use Rattle.encode.proofs.Puts.{put, then}
-use Rattle.encode.proofs.Whole.{file_parts}
+use Rattle.std.proofs.Common.{refl, rules}
+use Rattle.encode.proofs.Nodes.{whole_is}
+use Rattle.tables.specs.Surveys.{surveyed}
+use Rattle.encode.proofs.Whole.{file_room}
+use Rattle.encode.proofs.Puts.{then, first, second}
 use Rattle.encode.proofs.file.put_file.Goals as goal
 
-pub put_number-width_at-requires : goal.put_number-width_at-requires
-put_number-width_at-requires c =
-    let all = file_parts (basin_of c.args.head c.args.levels.now c.args.beds.now c.args.leaves.now) in
-    record { small = omega arith; room = omega (arith, c.requires.room) }
+pub number-requires-2-clause-room : goal.number-requires-2-clause-room
+number-requires-2-clause-room c = first _ (second (file_room (surveyed c.args.survey.now) _ refl c.requires) c.number.ensures)
 
-pub put_number-loose_at-requires : goal.put_number-loose_at-requires
-put_number-loose_at-requires c =
-    let all = file_parts (basin_of c.args.head c.args.levels.now c.args.beds.now c.args.leaves.now) in
-    record { small = omega arith; room = omega (arith, c.requires.room) }
+pub number-requires-3-clause-room : goal.number-requires-3-clause-room
+number-requires-3-clause-room c = first _ (second (second (file_room (surveyed c.args.survey.now) _ refl c.requires) c.number.ensures) c.number-2.ensures)
 
-pub put_number-tree_at-requires : goal.put_number-tree_at-requires
-put_number-tree_at-requires c =
-    let all = file_parts (basin_of c.args.head c.args.levels.now c.args.beds.now c.args.leaves.now) in
-    record { small = omega arith; room = omega (arith, c.requires.room) }
-
-pub put_node-beds_at-requires : goal.put_node-beds_at-requires
-put_node-beds_at-requires c =
-    let all = file_parts (basin_of c.args.head c.args.levels.now c.args.beds.now c.args.leaves.now) in
-    record { valid = c.requires.valid; block = record { deep = omega arith; east = omega arith; north = omega arith }; room = omega (arith, c.requires.room) }
+pub put_node-requires : goal.put_node-requires
+put_node-requires c =
+    rw (whole_is c.args.survey c.whole.result c.whole.ensures.survey c.whole.ensures.spot)
+    (first _ (second (second (second (file_room (surveyed c.args.survey.now) _ refl c.requires) c.number.ensures) c.number-2.ensures) c.number-3.ensures))
 
 pub put_beds-requires : goal.put_beds-requires
 put_beds-requires c =
-    let all = file_parts (basin_of c.args.head c.args.levels.now c.args.beds.now c.args.leaves.now) in
-    omega (arith, c.requires.room)
+    let tree = rw (whole_is c.args.survey c.whole.result c.whole.ensures.survey c.whole.ensures.spot) at c.put_node.ensures in
+    second (second (second (second (file_room (surveyed c.args.survey.now) _ refl c.requires) c.number.ensures) c.number-2.ensures) c.number-3.ensures) tree
 
 pub returns : goal.returns
 returns c =
-    let levels = put c.put_number-width_at.ensures.place c.put_number-width_at.ensures.bytes in
-    let width = put c.put_number-loose_at.ensures.place c.put_number-loose_at.ensures.bytes in
-    let loose = put c.put_number-tree_at.ensures.place c.put_number-tree_at.ensures.bytes in
-    let tree = put c.put_node-beds_at.ensures.place c.put_node-beds_at.ensures.bytes in
-    let beds = put c.put_beds.ensures.place c.put_beds.ensures.bytes in
-    (then levels (then width (then loose (then tree beds)))).bytes
+    let tree = rw (whole_is c.args.survey c.whole.result c.whole.ensures.survey c.whole.ensures.spot) at c.put_node.ensures in
+    let all = then c.number.ensures (then c.number-2.ensures (then c.number-3.ensures (then tree c.put_beds.ensures))) in
+    let same = all.same in
+    let written = all.written in
+    search rules

@@ -1,11 +1,11 @@
 -- The numbers of a record, one after another.
-use Rattle.std.proofs.Common.{◌≡◌, ◌+◌, length, ap, ◌∙◌, arith, w64, SFits, rules}
+use Rattle.std.proofs.Common.{◌≡◌, ap, ◌∙◌, w64, SFits, rules}
 use Rattle.std.proofs.lemmas.Int.{to_z-of_z}
-use Rattle.numbers.specs.Numbers.{number, coded}
-use Rattle.encode.proofs.Puts.{put, then, room_three}
+use Rattle.numbers.specs.Numbers.{coded}
+use Rattle.encode.proofs.Puts.{then, first, second}
 use Rattle.encode.proofs.Ranges.{small}
 use Rattle.encode.proofs.record.put_leaf.Goals as goal
-use Rattle.encode.proofs.record.put_leaf.Goals.{After-to_coded, After-to_coded-2, at-put_number-requires, at-returns}
+use Rattle.encode.proofs.record.put_leaf.Goals.{After-to_coded, After-to_coded-2, at-number-requires-3, at-returns}
 
 east_is : (c : After-to_coded) → c.to_coded.result ≡ coded c.args.leaf.east
 east_is c =
@@ -17,26 +17,20 @@ north_is c =
     let f : SFits w64 c.args.leaf.north = search rules in
     c.to_coded-2.ensures ∙ ap coded (to_z-of_z w64 c.args.leaf.north f)
 
-pub put_number-east_at-requires : goal.put_number-east_at-requires
-put_number-east_at-requires c =
-    let r = room_three c.args.at (length c.args.out.now) (number c.args.leaf.water) (number (coded c.args.leaf.east)) (number (coded c.args.leaf.north)) c.requires.room in
-    record { small = (small c.args.leaf c.requires.small).water; room = omega arith }
+pub number-requires : goal.number-requires
+number-requires c = record { small = (small c.args.leaf c.requires.small).water; room = first _ c.requires.room }
 
-pub put_number-north_at-requires : goal.put_number-north_at-requires
-put_number-north_at-requires c =
-    let r = room_three c.args.at (length c.args.out.now) (number c.args.leaf.water) (number (coded c.args.leaf.east)) (number (coded c.args.leaf.north)) c.requires.room in
-    rw (east_is c) (record { small = (small c.args.leaf c.requires.small).east; room = omega (arith, c.put_number-east_at.ensures.place) })
+pub number-requires-2 : goal.number-requires-2
+number-requires-2 c =
+    rw (east_is c) (record { small = (small c.args.leaf c.requires.small).east; room = first _ (second c.requires.room c.number.ensures) })
 
-pub put_number-requires : goal.put_number-requires
-put_number-requires c =
-    let r = room_three c.args.at (length c.args.out.now) (number c.args.leaf.water) (number (coded c.args.leaf.east)) (number (coded c.args.leaf.north)) c.requires.room in
-    let e = c.put_number-north_at.ensures.place ∙ ap (λ n. c.put_number-east_at.result + length (number n)) (east_is (at-put_number-requires c).After-to_coded) in
-    rw (north_is c) (record { small = (small c.args.leaf c.requires.small).north; room = omega (arith, e, c.put_number-east_at.ensures.place) })
+pub number-requires-3 : goal.number-requires-3
+number-requires-3 c =
+    let east = rw (east_is (at-number-requires-3 c).After-to_coded) at c.number-2.ensures in
+    rw (north_is c) (record { small = (small c.args.leaf c.requires.small).north; room = second (second c.requires.room c.number.ensures) east })
 
 pub returns : goal.returns
 returns c =
-    let water = put c.put_number-east_at.ensures.place c.put_number-east_at.ensures.bytes in
-    let e = put c.put_number-north_at.ensures.place c.put_number-north_at.ensures.bytes in
-    let n = put c.put_number.ensures.place c.put_number.ensures.bytes in
-    let all = then water (then (rw (east_is (at-returns c).After-to_coded) at e) (rw (north_is (at-returns c).After-to_coded-2) at n)) in
-    record { place = all.place; bytes = all.bytes }
+    let east = rw (east_is (at-returns c).After-to_coded) at c.number-2.ensures in
+    let north = rw (north_is (at-returns c).After-to_coded-2) at c.number-3.ensures in
+    then c.number.ensures (then east north)

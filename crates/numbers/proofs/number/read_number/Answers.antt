@@ -1,43 +1,67 @@
-use Rattle.std.proofs.Common.{◌≡◌, ◌+◌, ◌-◌, ◌*◌, get_or, sym, ap, ◌∙◌, inl, inr, pow-suc, add-one, arith}
+use Rattle.std.proofs.Common.{◌≡◌, ◌+◌, ◌-◌, ◌*◌, ◌<◌, sym, refl, ap, ◌∙◌, inl, inr, pow-suc, add-zero, add-one, arith}
 use Rattle.numbers.specs.Numbers.{groups_at}
-use Rattle.numbers.proofs.Groups.{ended, padded, done, more, share, light, kept_below}
+use Rattle.numbers.proofs.Groups.{first_six, ended, padded, done, more, light, kept_below, kept_small}
 use Rattle.numbers.proofs.number.read_number.Goals as goal
+use Rattle.numbers.proofs.number.read_number.Goals.{Else-byte-lt-MORE}
 
-pub returns-then-here-bytes : goal.returns-then-here-bytes
-returns-then-here-bytes c = ended (6 - c.loop-k.k) _ _ _ _ _ (omega arith) (omega arith) ∙ sym c.loop-k.invariant.0
+pub loop-k-init : goal.loop-k-init
+loop-k-init c =
+    (rw add-zero refl, omega arith, refl, first_six c.args.bytes.now c.args.at c.min.result c.get.result _ c.unwrap_or-rest.result c.get.ensures.lookup refl c.unwrap_or-rest.ensures c.min.ensures)
 
 pub returns-then-k-gt0 : goal.returns-then-k-gt0
-returns-then-k-gt0 c = padded (6 - c.loop-k.k) _ _ _ _ _ (omega arith) (omega arith) (omega arith) (omega arith) ∙ sym c.loop-k.invariant.0
+returns-then-k-gt0 c =
+    let all = c.loop-k.invariant.3 in
+    padded (6 - c.loop-k.k) _ _ _ _ _ _ (omega (arith, all.few)) (all.each _ _ (omega arith) c.from-byte.ensures) (omega arith) (omega arith) ∙ sym c.loop-k.invariant.0
 
 pub overflow_mul-result : goal.overflow_mul-result
-overflow_mul-result c = omega (arith, share c.loop-k.k c.loop-k.unit (get_or c.args.bytes.now c.loop-k.here 0) (omega arith) c.loop-k.invariant.2 (omega arith))
+overflow_mul-result c =
+    omega (arith, kept_small c.loop-k.k _ _ c.from-byte.result (omega (arith, c.loop-k.invariant.3.few)) c.loop-k.invariant.2 c.loop-k.invariant.1 (omega arith))
 
 pub overflow_add-result : goal.overflow_add-result
-overflow_add-result c = omega (arith, light c.loop-k.k (omega arith), share c.loop-k.k c.loop-k.unit (get_or c.args.bytes.now c.loop-k.here 0) (omega arith) c.loop-k.invariant.2 (omega arith))
+overflow_add-result c =
+    omega (arith, kept_small c.loop-k.k _ _ c.from-byte.result (omega (arith, c.loop-k.invariant.3.few)) c.loop-k.invariant.2 c.loop-k.invariant.1 (omega arith))
 
 pub returns-then-byte-lt-MORE : goal.returns-then-byte-lt-MORE
-returns-then-byte-lt-MORE c = done (6 - c.loop-k.k) _ _ _ _ _ (omega arith) (omega arith) (omega arith) (λ z l. elim c.else-byte-eq0.either [ inl w ↦ omega arith | inr w ↦ w z ]) ∙ sym c.loop-k.invariant.0
+returns-then-byte-lt-MORE c =
+    let all = c.loop-k.invariant.3 in
+    done (6 - c.loop-k.k) _ _ _ _ _ _ (omega (arith, all.few)) (all.each _ _ (omega arith) c.from-byte.ensures) (omega arith)
+    (λ z l. elim c.else-byte-eq0.either [ inl w ↦ omega arith | inr w ↦ w z ])
+    ∙ sym c.loop-k.invariant.0
+
+group : (c : Else-byte-lt-MORE) → c.from-byte.result - 128 < 128
+group c =
+    let all = c.loop-k.invariant.3 in
+    omega (arith, (all.each _ _ (omega arith) c.from-byte.ensures).is, c.type_inv.bytes (c.args.at + c.loop-k.k))
 
 pub overflow_mul-value : goal.overflow_mul-value
-overflow_mul-value c = omega (arith, share c.loop-k.k c.loop-k.unit (get_or c.args.bytes.now c.loop-k.here 0 - 128) (omega arith) c.loop-k.invariant.2 (omega arith))
+overflow_mul-value c =
+    omega (arith, kept_small c.loop-k.k _ _ (c.from-byte.result - 128) (omega (arith, c.loop-k.invariant.3.few)) c.loop-k.invariant.2 c.loop-k.invariant.1 (group c))
 
 pub overflow_add-value : goal.overflow_add-value
-overflow_add-value c = omega (arith, light c.loop-k.k (omega arith), share c.loop-k.k c.loop-k.unit (get_or c.args.bytes.now c.loop-k.here 0 - 128) (omega arith) c.loop-k.invariant.2 (omega arith))
+overflow_add-value c =
+    omega (arith, kept_small c.loop-k.k _ _ (c.from-byte.result - 128) (omega (arith, c.loop-k.invariant.3.few)) c.loop-k.invariant.2 c.loop-k.invariant.1 (group c))
 
 pub overflow_mul-unit : goal.overflow_mul-unit
-overflow_mul-unit c = omega (arith, light c.loop-k.k (omega arith))
+overflow_mul-unit c = omega (arith, light c.loop-k.k (omega (arith, c.loop-k.invariant.3.few)))
 
 pub loop-k-preserved : goal.loop-k-preserved
 loop-k-preserved c =
-    let e : 6 - (c.loop-k.k + 1) ≡ (6 - c.loop-k.k) - 1 = omega arith in (
-      c.loop-k.invariant.0 ∙ rw e (more (6 - c.loop-k.k) _ _ _ _ _ (omega arith) (omega arith) (omega arith)),
-      kept_below _ _ _ c.loop-k.invariant.1 (omega (arith, c.type_inv.bytes c.loop-k.here)),
+    let all = c.loop-k.invariant.3 in
+    let e : 6 - (c.loop-k.k + 1) ≡ (6 - c.loop-k.k) - 1 = omega arith in
+    let p : c.args.at + (c.loop-k.k + 1) ≡ c.args.at + c.loop-k.k + 1 = omega arith in (
+      c.loop-k.invariant.0 ∙ rw (e, p) (more (6 - c.loop-k.k) _ _ _ _ _ _ (omega (arith, all.few)) (all.each _ _ (omega arith) c.from-byte.ensures) (omega arith)),
+      kept_below _ _ _ c.loop-k.invariant.1 (group c),
       rw (add-one, pow-suc) (ap (λ n. n * 128) c.loop-k.invariant.2),
-      omega arith,
+      all,
     )
+
+pub returns-then-groups-lt-GROUPS : goal.returns-then-groups-lt-GROUPS
+returns-then-groups-lt-GROUPS c =
+    let all = c.loop-k.invariant.3 in
+    ended (6 - c.loop-k.k) _ _ _ _ _ (omega arith) (omega (arith, all.all (omega arith))) ∙ sym c.loop-k.invariant.0
 
 pub returns : goal.returns
 unfolding groups_at
 returns c =
-    let e : 6 - c.loop-k.k ≡ 0 = omega arith in
+    let e : 6 - c.loop-k.k ≡ 0 = omega (arith, c.loop-k.invariant.3.few) in
     sym (rw e at c.loop-k.invariant.0)
