@@ -1,6 +1,9 @@
 // Why a call is refused.
-ghost use Rattle.std.specs.Prelude.{◌≡◌};
+ghost use Rattle.std.specs.Prelude.{◌≡◌, Some};
+ghost use Rattle.std.specs.Fmt.{decimal};
 ghost use Rattle.basin.specs.Refusals.{number_of};
+
+use std::fmt;
 
 /// The reason of a refused call, with its number.
 #[derive(Clone, Copy, PartialEq, Eq, Debug)]
@@ -45,5 +48,14 @@ impl Refusal {
         ensures { result ≡ number_of self }
     {
         self as u8
+    }
+}
+
+/// A refusal is shown as its number.
+impl fmt::Display for Refusal {
+    ghost output = { λ r. Some (decimal (number_of r)) };
+
+    fn fmt<W: fmt::Write>(&self, f: &mut fmt::Formatter<W>) -> fmt::Result {
+        write!(f, "{}", self.number())
     }
 }

@@ -3,6 +3,7 @@ pub mod States
 pub mod Ponds
 pub mod Centrals
 pub mod Choices
+pub mod Names
 pub mod Worked
 pub mod CentralLaws
 pub mod InRange

@@ -2,88 +2,55 @@
 use flow::rules::Rules;
 use flow::side::Side;
 use std::alloc::{AllocError, Global};
-use std::{fmt, io};
+use std::io;
+use thiserror::Error;
 
-/// A rule and two sides, where such sides exist.
+/// A rule and its two sides, where both exist.
 #[derive(Clone, Copy)]
 pub struct Question {
     pub rule: Rules,
-    pub one: Option<Side>,
-    pub two: Option<Side>,
+    pub sides: Option<(Side, Side)>,
 }
 
 /// Why a line cannot be answered.
-#[derive(Drop)]
+#[derive(Debug, Drop, Error)]
 pub enum Stop {
+    #[error("this names no rule and two sides")]
     NotAQuestion,
+    #[error("a number is wanted")]
     NotANumber,
-    Memory,
-    Output(io::Error),
+    #[error("there is not enough memory")]
+    Memory(#[from] AllocError),
+    #[error(transparent)]
+    Output(#[from] io::Error),
 }
 
-impl fmt::Display for Stop {
-    fn fmt<W: fmt::Write>(&self, f: &mut fmt::Formatter<W>) -> fmt::Result {
-        match self {
-            Stop::NotAQuestion => write!(f, "this names no rule and two sides"),
-            Stop::NotANumber => write!(f, "a number is wanted"),
-            Stop::Memory => write!(f, "there is not enough memory"),
-            Stop::Output(error) => write!(f, "{error}"),
-        }
-    }
-}
-
-impl From<AllocError> for Stop {
-    fn from(_: AllocError) -> Stop {
-        Stop::Memory
-    }
-}
-
-impl From<io::Error> for Stop {
-    fn from(error: io::Error) -> Stop {
-        Stop::Output(error)
-    }
-}
-
-/// The number that a word stands for: decimal digits, and `-` before them where it is negative.
+/// The number that a word stands for: decimal digits, and `-` before them where it is negative. `replay` reads its numbers so too, for errors of
+/// its own; a crate for the two programs would be longer than the function.
 fn number(word: &str) -> Result<i64, Stop> {
-    if word.starts_with("+") {
+    if word.starts_with('+') {
         return Err(Stop::NotANumber);
     }
-    match word.parse::<i64>() {
-        Ok(value) => Ok(value),
-        Err(_) => Err(Stop::NotANumber),
-    }
+    word.parse().map_err(|_| Stop::NotANumber)
 }
 
 /// The side that three words stand for, if there is one.
 fn side(h: &str, u: &str, v: &str) -> Result<Option<Side>, Stop> {
-    let h = number(h)?;
-    let u = number(u)?;
-    let v = number(v)?;
-    match u32::try_from(h) {
-        Ok(h) => Ok(Side::new(h, u, v)),
-        Err(_) => Ok(None),
-    }
-}
-
-/// The rule of that name.
-fn rule(name: &str) -> Result<Rules, Stop> {
-    match name {
-        "central" => Ok(Rules::Central),
-        "pond" => Ok(Rules::Pond),
-        _ => Err(Stop::NotAQuestion),
-    }
+    let (h, u, v) = (number(h)?, number(u)?, number(v)?);
+    Ok(u32::try_from(h).ok().and_then(|h| Side::new(h, u, v)))
 }
 
 /// What a line asks.
 pub fn parse(heap: Global, line: &str) -> Result<Question, Stop> {
     let words: Vec<&str> = line.split(' ').collect(heap)?;
-    match words.as_slice() {
-        [name, h1, u1, v1, h2, u2, v2] => Ok(Question {
-            rule: rule(name)?,
-            one: side(h1, u1, v1)?,
-            two: side(h2, u2, v2)?,
-        }),
-        _ => Err(Stop::NotAQuestion),
-    }
+    let [name, h1, u1, v1, h2, u2, v2] = words.as_slice() else {
+        return Err(Stop::NotAQuestion);
+    };
+    let rule = name.parse().map_err(|_| Stop::NotAQuestion)?;
+    let one = side(h1, u1, v1)?;
+    let two = side(h2, u2, v2)?;
+    Ok(Question {
+        rule,
+        sides: one.zip(two),
+    })
 }

@@ -1,21 +1,16 @@
 // Files that are read or refused.
 use crate::*;
 
-// Whether a file is refused with these three numbers, and the tables are as they were.
+// Whether a file is refused with these three numbers, and the tables are as they were. Numbers and not variants: what programs print is tested.
 fn is_refused(bytes: &[u8], number: u8, byte: usize, layer: u8) -> bool {
     let mut levels = [9];
     let mut beds = [9];
     let mut leaves = [Leaf::DRY];
-    match read(bytes, &mut levels, &mut beds, &mut leaves) {
-        Ok(_) => false,
-        Err(fault) => {
-            let report = fault.report();
-            let told = report.refusal.number() == number
-                && report.byte == byte
-                && report.layer.number() == layer;
-            told && levels == [9] && beds == [9] && leaves == [Leaf::DRY]
-        }
-    }
+    let told = read(bytes, &mut levels, &mut beds, &mut leaves).is_err_and(|fault| {
+        let report = fault.report();
+        (report.refusal.number(), report.byte, report.layer.number()) == (number, byte, layer)
+    });
+    told && levels == [9] && beds == [9] && leaves == [Leaf::DRY]
 }
 
 #[test]

@@ -16,7 +16,7 @@ pub use flow::central::Central;
 pub use flow::flux::Flux;
 pub use flow::pond::Pond;
 pub use flow::rule::FlowRule;
-pub use flow::rules::Rules;
+pub use flow::rules::{Rules, UnknownRule};
 pub use flow::side::Side;
 pub use lists::call::{Call, Entry};
 pub use lists::replay::replay;

@@ -1,8 +1,10 @@
 // The calls of a log.
-use crate::hex::decode;
-use crate::session::Stop;
+use crate::stop::Stop;
+use hex::decode;
 use kaftanore::{Call, Rules};
 use std::alloc::Global;
+use std::num::ParseIntError;
+use std::str::FromStr;
 
 /// A call as a line of the log gives it.
 #[derive(Drop)]
@@ -26,68 +28,48 @@ pub enum Line {
     Alone(Command),
 }
 
-/// The number that a word of digits stands for.
-fn number(word: &str) -> Result<u64, Stop> {
-    for byte in word.bytes() {
-        if !byte.is_ascii_digit() {
-            return Err(Stop::NotANumber);
-        }
+/// The number, of a type without sign, that a word of digits stands for.
+fn number<N: FromStr<Err = ParseIntError>>(word: &str) -> Result<N, Stop> {
+    if word.starts_with('+') {
+        return Err(Stop::NotANumber);
     }
-    match word.parse::<u64>() {
-        Ok(value) => Ok(value),
-        Err(_) => Err(Stop::NotANumber),
-    }
+    word.parse().map_err(|_| Stop::NotANumber)
 }
 
 /// A number in 32 bits; a larger one becomes the largest, which is out of every range too.
 fn narrow(word: &str) -> Result<u32, Stop> {
-    let value = number(word)?;
-    Ok(u32::try_from(value).unwrap_or(u32::MAX))
-}
-
-fn place(word: &str) -> Result<usize, Stop> {
-    let value = number(word)?;
-    Ok(value as usize)
-}
-
-/// The flow rule of this name.
-fn rule(name: &str) -> Result<Rules, Stop> {
-    match name {
-        "central" => Ok(Rules::Central),
-        "pond" => Ok(Rules::Pond),
-        _ => Err(Stop::NotARule),
-    }
+    Ok(u32::try_from(number::<u64>(word)?).unwrap_or(u32::MAX))
 }
 
 /// The call of a list that some words stand for. A step takes the whole work table.
 fn listed(words: &[&str]) -> Result<Call<Rules>, Stop> {
     match words {
         ["pour", x, y, amount] => Ok(Call::Pour {
-            x: place(x)?,
-            y: place(y)?,
+            x: number(x)?,
+            y: number(y)?,
             amount: narrow(amount)?,
         }),
         ["draw", x, y, amount] => Ok(Call::Draw {
-            x: place(x)?,
-            y: place(y)?,
+            x: number(x)?,
+            y: number(y)?,
             amount: narrow(amount)?,
         }),
         ["settle", x, y] => Ok(Call::Settle {
-            x: place(x)?,
-            y: place(y)?,
+            x: number(x)?,
+            y: number(y)?,
         }),
         ["step", time, name] => Ok(Call::Step {
             time: narrow(time)?,
-            rule: rule(name)?,
+            rule: name.parse()?,
             entries: usize::MAX,
         }),
         ["split", x, y] => Ok(Call::Split {
-            x: place(x)?,
-            y: place(y)?,
+            x: number(x)?,
+            y: number(y)?,
         }),
         ["merge", x, y] => Ok(Call::Merge {
-            x: place(x)?,
-            y: place(y)?,
+            x: number(x)?,
+            y: number(y)?,
         }),
         _ => Err(Stop::NotACall),
     }
@@ -101,19 +83,19 @@ fn alone(heap: Global, words: &[&str]) -> Result<Option<Command>, Stop> {
             width: narrow(width)?,
         },
         ["lay", x, y, bed] => Command::Lay {
-            x: place(x)?,
-            y: place(y)?,
+            x: number(x)?,
+            y: number(y)?,
             bed: narrow(bed)?,
         },
         ["close"] => Command::Close,
         ["read"] => Command::Read(Vec::new(heap)),
-        ["read", hex] => Command::Read(decode(heap, hex)?),
+        ["read", hex] => Command::Read(decode(heap, *hex)?),
         ["load", path] => Command::Load(String::from_str(heap, path)?),
         ["write"] => Command::Write,
         ["save", path] => Command::Save(String::from_str(heap, path)?),
         ["look", x, y] => Command::Look {
-            x: place(x)?,
-            y: place(y)?,
+            x: number(x)?,
+            y: number(y)?,
         },
         ["total"] => Command::Total,
         ["turn", number] => Command::Turn(narrow(number)?),

@@ -1,14 +1,15 @@
 // Performs a log of calls, one a line, and prints what each answers.
 #![tactic(auto)]
 
+mod answer;
 mod command;
-mod hex;
 mod session;
+mod stop;
 
 use crate::command::{Line, parse};
-use crate::session::{Session, Stop};
+use crate::session::Session;
+use crate::stop::Stop;
 use anyhow::anyhow;
-use std::io;
 use std::io::{BufRead, BufReader};
 
 const CALLS: &str = "it expects one call a line:
@@ -21,14 +22,8 @@ blank lines and lines that begin with # are passed over";
 
 /// Notes the call on a line for a list, or performs the list and the call and prints their answers; nothing where the line is empty or a
 /// comment.
-fn perform(
-    rt: &HostRuntime,
-    session: &mut Session,
-    line: Result<String, io::Error>,
-) -> Result<(), Stop> {
-    let line = line?;
-    let line = line.as_str();
-    if line.is_empty() || line.starts_with("#") {
+fn perform(rt: &HostRuntime, session: &mut Session, line: &str) -> Result<(), Stop> {
+    if line.is_empty() || line.starts_with('#') {
         return Ok(());
     }
     match parse(rt.alloc(), line)? {
@@ -42,23 +37,21 @@ fn perform(
     }
 }
 
-/// Performs the lines in order, up to the first that cannot be performed, and counts them.
+/// Performs the lines in order, up to the first that cannot be performed, and leaves the number of the last in `count`.
 fn perform_lines(rt: &HostRuntime, session: &mut Session, count: &mut u64) -> Result<(), Stop> {
-    for line in BufReader::new(rt.alloc(), rt.stdin())?.lines(rt.alloc()) {
-        *count = count.saturating_add(1);
-        let done = perform(rt, session, line);
-        if done.is_err() {
-            session.perform_list(rt)?;
-            return done;
-        }
+    let lines = BufReader::new(rt.alloc(), rt.stdin())?.lines(rt.alloc());
+    for (number, line) in (1..).zip(lines) {
+        *count = number;
+        perform(rt, session, line?.as_str())?;
     }
-    session.perform_list(rt)
+    Ok(())
 }
 
 fn main(rt: HostRuntime) -> anyhow::Result<()> {
     let mut session = Session::new(rt.alloc());
     let mut count: u64 = 0;
-    if let Err(stop) = perform_lines(&rt, &mut session, &mut count) {
+    let done = perform_lines(&rt, &mut session, &mut count);
+    if let Err(stop) = session.perform_list(&rt).and(done) {
         eprintln!(&rt; "replay: line {count}: {stop}; {CALLS}")?;
         return Err(anyhow!("the log was not performed to its end"));
     }

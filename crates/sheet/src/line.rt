@@ -1,5 +1,7 @@
 // A leaf's line.
-ghost use Rattle.std.specs.Prelude.{◌≡◌, ◌<◌};
+ghost use Rattle.std.specs.Prelude.{◌≡◌, ◌<◌, [], ◌∷◌, Some};
+ghost use Rattle.std.specs.Fmt.{decimal, signed_decimal};
+ghost use Rattle.std.specs.List.{join_with_byte};
 ghost use Rattle.basin.specs.Basins.{heading, side, basin_of, view, ValidBasin};
 ghost use Rattle.sheet.specs.Lines.{line};
 
@@ -20,18 +22,16 @@ pub struct Line {
     pub north: i64,
 }
 
+/// A line is shown as its seven numbers.
 impl fmt::Display for Line {
+    ghost output = { λ l. Some (join_with_byte 32 (decimal l.x ∷ decimal l.y ∷ decimal l.side ∷ decimal l.surface ∷ decimal l.water ∷ signed_decimal l.east ∷ signed_decimal l.north ∷ [])) };
+
     fn fmt<W: fmt::Write>(&self, f: &mut fmt::Formatter<W>) -> fmt::Result {
-        let Line {
-            x,
-            y,
-            side,
-            surface,
-            water,
-            east,
-            north,
-        } = *self;
-        write!(f, "{x} {y} {side} {surface} {water} {east} {north}")
+        write!(
+            f,
+            "{} {} {} {} {} {} {}",
+            self.x, self.y, self.side, self.surface, self.water, self.east, self.north
+        )
     }
 }
 

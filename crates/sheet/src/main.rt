@@ -7,7 +7,7 @@ mod line;
 mod list;
 
 use crate::list::list;
-use kaftanore::{FileFault, Head, Leaf, read, table_length};
+use kaftanore::{Head, Leaf, read, table_length};
 use std::io;
 use std::io::Read;
 
@@ -24,10 +24,7 @@ fn print_sheet(
 ) -> io::Result<()>
     requires { ValidBasin (basin_of head levels.now beds.now leaves.now) }
 {
-    let side = head.side();
-    let width = head.width;
-    let loose = head.loose;
-    println!(rt; "{side} {width} {loose}")?;
+    println!(rt; "{} {} {}", head.side(), head.width, head.loose)?;
     let lines = list(rt.alloc(), head, levels, beds, leaves)?;
     for line in &lines {
         println!(rt; "{line}")?;
@@ -35,35 +32,16 @@ fn print_sheet(
     Ok(())
 }
 
-/// Prints the refusal's number, the byte that it is about, and its layer.
-fn print_refusal(rt: &HostRuntime, fault: FileFault) -> io::Result<()> {
-    let report = fault.report();
-    let number = report.refusal.number();
-    let byte = report.byte;
-    let layer = report.layer.number();
-    println!(rt; "refused {number} {byte} {layer}")
-}
-
 /// Prints the sheet of the file, or its refusal.
-fn show(
-    rt: &HostRuntime,
-    bytes: &[u8],
-    levels: &mut [u8],
-    beds: &mut [u16],
-    leaves: &mut [Leaf],
-) -> io::Result<()> {
-    match read(bytes, levels, beds, leaves) {
-        Ok(head) => print_sheet(rt, head, levels, beds, leaves),
-        Err(fault) => print_refusal(rt, fault),
-    }
-}
-
 fn main(rt: HostRuntime) -> io::Result<()> {
     let mut bytes = Vec::new(rt.alloc());
     rt.stdin().take(MOST_BYTES).read_to_end(&mut bytes)?;
     let squares = table_length(&bytes);
-    let mut levels = vec![in rt.alloc(); 0u8; squares]?;
-    let mut beds = vec![in rt.alloc(); 0u16; squares]?;
+    let mut levels = vec![in rt.alloc(); 0; squares]?;
+    let mut beds = vec![in rt.alloc(); 0; squares]?;
     let mut leaves = vec![in rt.alloc(); Leaf::DRY; squares]?;
-    show(&rt, &bytes, &mut levels, &mut beds, &mut leaves)
+    match read(&bytes, &mut levels, &mut beds, &mut leaves) {
+        Ok(head) => print_sheet(&rt, head, &levels, &beds, &leaves),
+        Err(fault) => println!(&rt; "refused {}", fault.report()),
+    }
 }
