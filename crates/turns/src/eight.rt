@@ -18,6 +18,7 @@ pub enum Turn {
     F3,
 }
 
+// the library's callers name turns by numbers: a narrower parameter would ask more of them
 impl TryFrom<u32> for Turn {
     ghost use Rattle.std.specs.Prelude.{◌≡◌, ◌<◌, MatchResult};
     ghost use Rattle.basin.specs.declared.refusal.Refusal.TheVariants.{OutOfRange};

@@ -12,6 +12,7 @@ use basin::refusal::Refusal;
 use tables::survey::Survey;
 
 /// Writes a basin, turned, to a second set of tables, and answers its head.
+// each table is a slice of its own, as the caller keeps them
 pub fn turn(
     head: Head,
     levels: &[u8],
