@@ -1,5 +1,6 @@
 -- What the calls on a draft answer, and what they leave of the tables.
-use Rattle.std.specs.Prelude.{ℕ, ◌+◌, ◌*◌, Bool, true, cond, not, ◌&&◌, ◌||◌, List, [], ◌∷◌, length, replicate, Ok, Err, Result, ◌==◌, nat_le, nat_lt, slice_set}
+use Rattle.std.specs.Prelude.{ℕ, ◌+◌, ◌*◌, Bool, cond, not, ◌&&◌, ◌||◌, List, length, replicate, Ok, Err, Result, ◌==◌, nat_le, nat_lt, slice_set}
+use Rattle.std.specs.List.{list_all}
 use Rattle.basin.specs.declared.refusal.Refusal.{Refusal}
 use Rattle.basin.specs.declared.refusal.Refusal.TheVariants.{TableLength, NotABasin, OffGrid, OutOfRange}
 use Rattle.basin.specs.Basins.{Heading, Tables, tables, side}
@@ -15,7 +16,7 @@ abbrev pub plan : ℕ → ℕ → Plan
 plan L d = record { L = L; d = d }
 
 abbrev pub planned : Draft → Plan
-planned d = plan d.levels d.width
+planned d = plan d.head.levels d.head.width
 
 -- the head of the basin that a draft becomes
 abbrev pub headed : Plan → Heading
@@ -38,8 +39,7 @@ full p t = fits p t.levels && (fits p t.beds && fits p t.leaves)
 
 -- every bed is at most 30,000
 abbrev pub all_low : List ℕ → Bool
-all_low [] = true
-all_low (b ∷ beds) = nat_le b 30000 && all_low beds
+all_low beds = list_all (λ b. nat_le b 30000) beds
 
 -- the levels and the width are in their ranges
 abbrev pub in_range : Plan → Bool

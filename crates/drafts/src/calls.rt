@@ -16,32 +16,32 @@ pub fn open(levels: u32, width: u32, beds: &mut [u16]) -> Result<Draft, Refusal>
     if levels > 6 || width < 1 || width > 1_000 {
         return Err(Refusal::OutOfRange);
     }
-    let draft = Draft {
+    let head = Head {
         levels: levels as u8,
         width: width as u16,
+        loose: 0,
     };
-    if beds.len() != draft.squares() {
+    if beds.len() != head.squares() {
         return Err(Refusal::TableLength);
     }
     beds.fill(0);
-    Ok(draft)
+    Ok(Draft { head })
 }
 
 /// Sets the bed of one square.
 pub fn lay(draft: &Draft, beds: &mut [u16], x: usize, y: usize, bed: u32) -> Result<(), Refusal>
     ensures { (result, beds.new) ≡ lay_of (planned draft.now) beds.old x y bed }
 {
-    let n = draft.side();
-    if beds.len() != n * n {
+    if beds.len() != draft.head.squares() {
         return Err(Refusal::TableLength);
     }
-    if x >= n || y >= n {
+    let Some(square) = draft.head.square(x, y) else {
         return Err(Refusal::OffGrid);
-    }
+    };
     if bed > 30_000 {
         return Err(Refusal::OutOfRange);
     }
-    beds[y * n + x] = bed as u16;
+    beds[square.entry()] = bed as u16;
     Ok(())
 }
 
@@ -49,15 +49,11 @@ pub fn lay(draft: &Draft, beds: &mut [u16], x: usize, y: usize, bed: u32) -> Res
 fn all_low(beds: &[u16]) -> bool
     ensures { result ≡ all_low_of beds.now }
 {
-    for bed in beds {
-        if *bed > 30_000 {
-            return false;
-        }
-    }
-    true
+    beds.iter().all(|bed| *bed <= 30_000)
 }
 
 /// Makes a basin of one dry leaf of the draft's beds. Where it is refused, the draft is handed back.
+// as a pair: a struct of the two would say no more, and each caller takes it apart at once
 pub fn close(
     draft: Draft,
     levels: &mut [u8],
@@ -67,8 +63,7 @@ pub fn close(
     ensures close { (closed result, tables levels.new beds.now leaves.new) ≡ close_of (planned draft) (tables levels.old beds.now leaves.old) }
     ensures valid { IfOk result (λ h. ValidBasin (basin (heading h) (tables levels.new beds.now leaves.new))) }
 {
-    let squares = draft.squares();
-    if levels.len() != squares || beds.len() != squares || leaves.len() != squares {
+    if !draft.head.fits(levels, beds, leaves) {
         return Err((Refusal::TableLength, draft));
     }
     if !all_low(beds) {
@@ -76,11 +71,7 @@ pub fn close(
     }
     levels.fill(0);
     leaves.fill(Leaf::DRY);
-    Ok(Head {
-        levels: draft.levels,
-        width: draft.width,
-        loose: 0,
-    })
+    Ok(draft.head)
 }
 
 #[cfg(test)]

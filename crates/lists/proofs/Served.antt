@@ -1,6 +1,5 @@
 -- The entries, the basin and the work table once the first calls of a list have been performed.
 use Rattle.std.proofs.Common.{◌≡◌, ℕ, zero, suc, ◌+◌, ◌<◌, List, [], ◌∷◌, map, length, get_or, set, Ok, Err, Result, refl, ap, ◌∙◌, add-one, arith}
-use Rattle.std.proofs.lemmas.List.{get_or_default}
 use Rattle.std.specs.List.{AllByRecursion}
 use Rattle.basin.specs.declared.leaf.Leaf.{Leaf}
 use Rattle.basin.specs.declared.refusal.Refusal.{Refusal}
@@ -93,18 +92,16 @@ module _ {A : Type 0} (meaning : A → Rule) (size : ℕ) where
     pub work : w' ≡ worked i es b w
 
   pub steps_on : (i : ℕ) (es es' : List (Entry A)) (b b' : Basin) (w w' : List Leaf) → i < length es → Next i es es' b b' w w'
-      → (e f : Entry A) (r : Result ℕ Refusal) (b'' : Basin) (w'' : List Leaf) → (replied r, b'') ≡ done (get_or es' i e) b'
-      → w'' ≡ work_after_call (get_or es' i e).call (replied r) w'
-      → Next (i + 1) es (set es' i (record { call = (get_or es' i f).call; reply = r })) b b'' w w''
-  steps_on i es es' b b' w w' h so e f r b'' w'' did worked-on =
+      → (e : Entry A) (r : Result ℕ Refusal) (b'' : Basin) (w'' : List Leaf) (k : ℕ) → k ≡ size
+      → (replied r, b'') ≡ perform (call_of meaning k (get_or es' i e).call) b' → w'' ≡ work_after_call (get_or es' i e).call (replied r) w'
+      → Next (i + 1) es (set es' i (record { call = (get_or es' i e).call; reply = r })) b b'' w w''
+  steps_on i es es' b b' w w' h so e r b'' w'' k long did worked-on =
       let here : get_or es' i e ≡ get_or es i e = ap (λ xs. get_or xs i e) so.entries ∙ next_entry i es b e in
-      let same : get_or es' i f ≡ get_or es i e = ap (λ xs. get_or xs i f) so.entries ∙ next_entry i es b f ∙ get_or_default es i f e h in
-      let now : (replied r, b'') ≡ done (get_or es i e) (reached i es b) = did ∙ (λ t. done (here t) (so.basin t)) in
+      let now : (replied r, b'') ≡ done (get_or es i e) (reached i es b) = did ∙ (λ t. perform (call_of meaning (long t) (here t).call) (so.basin t)) in
       let told : replied r ≡ (done (get_or es i e) (reached i es b)).0 = ap (λ q. q.0) now in
       let result : r ≡ result_of (done (get_or es i e) (reached i es b)).0 = result_is r _ told in
-      let call : (get_or es' i f).call ≡ (get_or es i e).call = ap (λ x. x.call) same in
       rw (add-one i) (record {
-        entries = (λ t. set (so.entries t) i (record { call = call t; reply = result t })) ∙ serves i es b e h;
+        entries = (λ t. set (so.entries t) i (record { call = (here t).call; reply = result t })) ∙ serves i es b e h;
         basin = ap (λ q. q.1) now ∙ reaches i es b e h;
         work = worked-on ∙ (λ t. work_after_call (here t).call (told t) (so.work t)) ∙ works i es b e w h;
       })

@@ -1,6 +1,7 @@
--- The work table at the end of a list.
-use Rattle.std.proofs.Common.{◌≡◌, ℕ, ◌*◌, ◌^◌, ◌≤◌, min, Bool, true, false, cond, not, ◌||◌, eqb, ltb, List, [], ◌∷◌, ◌++◌, length, take, drop, replicate, Ok, Err, Result, sym, refl, ap, ◌∙◌, inl, inr, arith, length-append, length-drop, take-append-drop, drop_of_length-le, length-take, drop_at}
+-- The work table at the end of a list, and the list once it has been performed.
+use Rattle.std.proofs.Common.{◌≡◌, ℕ, ◌*◌, ◌^◌, ◌≤◌, min, Bool, true, false, cond, not, ◌||◌, eqb, ltb, List, [], ◌∷◌, ◌++◌, map, length, take, drop, replicate, Ok, Err, Result, sym, refl, ap, ◌∙◌, inl, inr, arith, length-append, length-drop, take-append-drop, drop_of_length-le, length-take, drop_at}
 use lib.ListN.{length-replicate}
+use Rattle.std.proofs.Math.Bool.{or-false, or_assoc}
 use Rattle.std.proofs.lemmas.Bool.{cases_lt, eqb-true}
 use Rattle.basin.specs.declared.leaf.Leaf.{Leaf}
 use Rattle.basin.specs.declared.refusal.Refusal.{Refusal}
@@ -17,8 +18,8 @@ use Rattle.step.specs.Ends.{work_after}
 use Rattle.lists.specs.declared.call.Call.TheVariants.{Pour, Draw, Settle, Step, Split, Merge}
 use Rattle.lists.specs.declared.call.Entry.{Entry}
 use Rattle.lists.specs.declared.call.Call as list
-use Rattle.lists.specs.Lists.{call_of, calls_of, work_after_call, timed, some_timed, work_left}
-use Rattle.lists.proofs.Served.{worked}
+use Rattle.lists.specs.Lists.{call_of, calls_of, work_after_call, timed, some_timed, work_left, replies_of, Performed}
+use Rattle.lists.proofs.Served.{worked, Next, served_calls, served_replies, reached_last}
 
 -- ---- a basin keeps its size
 keeps_levels : (c : Call) (b : Basin) → (perform c b).1.head.L ≡ b.head.L
@@ -86,12 +87,10 @@ module _ (n : ℕ) (w : List Leaf) where
       ]
 
   left_same : (once : Bool) → left once ≡ left (once || false)
-  left_same true = refl
-  left_same false = refl
+  left_same once = ap left (sym (or-false once))
 
   left_again : (a b c : Bool) → left ((a || b) || c) ≡ left (a || (b || c))
-  left_again true b c = refl
-  left_again false b c = refl
+  left_again a b c = ap left (or_assoc a b c)
 
   left_length : (once : Bool) → (once ≡ true → n ≤ length w) → length (left once) ≡ length w
   left_length true room = let h = room refl in length-append (replicate n dry) (drop n w) ∙ omega (arith, length-replicate n dry, length-drop n w)
@@ -155,3 +154,15 @@ module _ {A : Type 0} (meaning : A → Rule) (w : List Leaf) (n : ℕ) where
 pub work_is : {A : Type 0} (meaning : A → Rule) (w : List Leaf) (es : List (Entry A)) (b : Basin)
     → worked meaning (length w) (length es) es b w ≡ work_left b (some_timed (calls_of meaning (length w) es) (run (calls_of meaning (length w) es) b)) w
 work_is meaning w es b = after_all meaning w (side b.head * side b.head) false (λ e. differ false e refl) es b refl
+
+-- ---- the list, once all of its calls have been performed
+pub all_performed : {A : Type 0} (meaning : A → Rule) (i : ℕ) (es es' : List (Entry A)) (b b' : Basin) (w w' : List Leaf) → i ≡ length es
+    → Next meaning (length w) i es es' b b' w w' → Performed meaning es es' w w' b b'
+all_performed meaning i es es' b b' w w' all next =
+    let end = rw all at next in
+    record {
+      calls = ap (map (λ e. e.call)) end.entries ∙ served_calls meaning (length w) es b;
+      replies = ap replies_of end.entries ∙ served_replies meaning (length w) es b;
+      basin = end.basin ∙ reached_last meaning (length w) es b;
+      work = end.work ∙ work_is meaning w es b;
+    }

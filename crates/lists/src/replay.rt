@@ -28,8 +28,7 @@ pub fn replay<R: FlowRule + Copy>(
     ensures lawful { ValidBasin (basin_of head.old levels.old beds.now leaves.old) → RunsWell (basin_of head.old levels.old beds.now leaves.old) (calls_of R.meaning (length work.old) entries.old) }
     ensures always { AllRunsWell }
 {
-    for i in 0..entries.len() {
-        let reply = perform(head, levels, beds, leaves, work, entries[i].call);
-        entries[i].reply = reply;
+    for entry in entries.iter_mut() {
+        entry.reply = perform(head, levels, beds, leaves, work, entry.call);
     }
 }

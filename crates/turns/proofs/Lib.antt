@@ -1,5 +1,4 @@
 -- The lemmas that the proofs use.
-pub mod Composites
 pub mod Places
 pub mod Carrying
 pub mod Tables

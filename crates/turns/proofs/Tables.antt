@@ -1,14 +1,24 @@
 -- Turned tables: filling one, entry by entry, and two turns of one.
-use Rattle.std.proofs.Common.{◌≡◌, ℕ, zero, suc, ◌+◌, ◌*◌, ◌/◌, ◌%◌, ◌<◌, ◌≤◌, ◌≢◌, List, length, get_or, set, sym, ap, ◌∙◌, div-add-mod', arith, below_more}
+use Rattle.std.proofs.Common.{◌≡◌, ℕ, zero, suc, ◌+◌, ◌*◌, ◌/◌, ◌%◌, ◌<◌, ◌≤◌, List, length, get_or, sym, ap, ◌∙◌, div-add-mod', arith}
 use lib.Arith.{digits_lt, digits_mod, digits_div}
 use Rattle.std.proofs.lemmas.Nat.{mod_below, div_below}
-use Rattle.std.proofs.lemmas.List.{get_or_read, get_or-set_other, get_or-set_same, same_lists}
+use Rattle.std.proofs.lemmas.List.{same_lists}
 use Rattle.basin.specs.Tables.{entry}
 use Rattle.runs.specs.Turns.{Place, place, flip_place, quarter_place}
+use Rattle.turns.specs.declared.eight.Turn.{Turn}
+use Rattle.turns.specs.Eight.{number_of}
 use Rattle.turns.specs.Laws.{TableStays, TableTurnsCompose}
 use Rattle.turns.specs.Turns.{composite_of, undoing, turned_place, TurnedTable}
 use Rattle.turns.specs.Composing.{two_turns, undone_last}
 use Rattle.turns.proofs.Places.{turn_keeps, places_turn}
+
+pub known : (t : Turn) → number_of t < 8
+known t = grind arith
+
+-- a turned table, by equal numbers and entries
+pub turned_alike : {A : Type 0} (act : ℕ → A → A) (n n' t t' : ℕ) (xs xs' ys : List A) → n ≡ n' → t ≡ t' → xs ≡ xs'
+    → TurnedTable act n t xs ys → TurnedTable act n' t' xs' ys
+turned_alike act n n' t t' xs xs' ys e f g h = rw (← e, ← f, ← g) h
 
 -- ---- filling
 -- the square whose entry comes to stand at entry k after turn t
@@ -18,26 +28,6 @@ source n t k = turned_place n (undoing t) (place (k % n) (k / n))
 -- the first i entries of ys are written
 pub record Written {A : Type 0} (act : ℕ → A → A) (n t : ℕ) (xs ys : List A) (i : ℕ) : Type 0 where
   pub done : (k : ℕ) (d : A) → k < i → get_or ys k d ≡ act t (entry n d xs (source n t k).x (source n t k).y)
-
--- the value v that is read at entry k, the place r of which is where turn b, which undoes t, takes entry i
-pub read_source : {A : Type 0} (n t b i k : ℕ) (xs : List A) (r : ℕ × ℕ) (v d : A) → b ≡ undoing t
-    → place r.0 r.1 ≡ turned_place n b (place (i % n) (i / n)) → k ≡ r.1 * n + r.0 → k < length xs → v ≡ get_or xs k v
-    → v ≡ entry n d xs (source n t i).x (source n t i).y
-read_source n t b i k xs r v d undone from at h read =
-    get_or_read xs k v h read d
-    ∙ ap (λ j. get_or xs j d) at
-    ∙ ap (λ p. entry n d xs p.x p.y) (from ∙ ap (λ t. turned_place n t (place (i % n) (i / n))) undone)
-
-pub written_more : {A : Type 0} (act : ℕ → A → A) (n t : ℕ) (xs ys : List A) (i : ℕ) (v : A) → i < length ys
-    → (a : A) → v ≡ act t a → ((d : A) → a ≡ entry n d xs (source n t i).x (source n t i).y)
-    → Written act n t xs ys i → Written act n t xs (set ys i v) (i + 1)
-written_more act n t xs ys i v h a e from w =
-    record {
-      done = λ k d.
-          below_more (λ k. get_or (set ys i v) k d ≡ act t (entry n d xs (source n t k).x (source n t k).y)) i
-          (λ k l. let other : k ≢ i = omega arith in get_or-set_other ys i k v d other ∙ w.done k d l)
-          (get_or-set_same ys i v d h ∙ e ∙ ap (act t) (from d)) k;
-    }
 
 pub written_all : {A : Type 0} (act : ℕ → A → A) (n t : ℕ) (xs ys : List A) (i : ℕ) → t < 8 → length ys ≡ n * n → n * n ≤ i → Written act n t xs ys i → TurnedTable act n t xs ys
 written_all act n t xs ys i h full all w =

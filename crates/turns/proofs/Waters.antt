@@ -1,5 +1,6 @@
 -- A turned basin holds the same water.
-use Rattle.std.proofs.Common.{◌≡◌, ℕ, zero, suc, ◌+◌, ◌/◌, ◌%◌, Bool, true, false, ◌&&◌, eqb, sym, refl, ap, ◌∙◌}
+use Rattle.std.proofs.Common.{◌≡◌, ℕ, zero, suc, ◌+◌, ◌/◌, ◌%◌, Bool, ◌&&◌, eqb, sym, refl, ap, ◌∙◌}
+use Rattle.std.proofs.Math.Bool.{and_comm}
 use Rattle.basin.specs.Basins.{Basin, view, Valid, ValidBasin}
 use Rattle.basin.specs.Squares.{water}
 use Rattle.basin.specs.Sums.{only}
@@ -39,10 +40,7 @@ transpose_water v =
     ∙ grid_across (size v) (λ x y. only (is_corner v x y) (water v x y))
   where
     across : (s t : Bool) (m : ℕ) → only (s && t) m ≡ only (t && s) m
-    across true true m = refl
-    across true false m = refl
-    across false true m = refl
-    across false false m = refl
+    across s t m = ap (λ b. only b m) (and_comm s t)
 
 flip_total : (b : Basin) → ValidBasin b → total (flip_basin b) ≡ total b
 flip_total b right =

@@ -3,3 +3,4 @@ pub mod Turns
 pub mod Laws
 pub mod Composing
 pub mod Records
+pub mod Eight

@@ -13,7 +13,9 @@ use Rattle.basin.proofs.Sizes.{side_pos, area_small}
 use Rattle.runs.specs.Turns.{flip_leaf}
 use Rattle.runs.proofs.Limits.{abs_negate}
 use Rattle.runs.proofs.Ranges.{holds_at}
-use Rattle.turns.specs.Turns.{quarter_leaf, Reversible}
+use Rattle.turns.specs.declared.eight.Turn.{Turn}
+use Rattle.turns.specs.Eight.{number_of, picked}
+use Rattle.turns.specs.Turns.{quarter_leaf, turned_leaf, Reversible}
 use Rattle.turns.specs.Composing.{Acting}
 
 pub records_turn : Acting flip_leaf quarter_leaf
@@ -35,19 +37,30 @@ other_sign z h =
     let small : unsigned_abs (neg_ℤ z) < 2 ^ 63 = omega (arith, abs_negate z) in
     ap (λ w. to_z w64 (of_z w64 (pos 0 -ℤ w))) (kept_sign z h) ∙ ap (λ w. to_z w64 (of_z w64 w)) less ∙ kept_sign (neg_ℤ z) small
 
--- ---- a flip and a quarter turn of a record
-pub flip_is : (l : Leaf) (east : ℤ) → east ≡ neg_ℤ l.east → record { water = l.water; east = east; north = l.north } ≡ flip_leaf l
-flip_is l east e = λ i. record { water = l.water; east = e i; north = l.north }
+-- ---- the eight turns of a record
+-- the discharges that a turn makes of a record's
+abbrev discharges : Turn → Leaf → ℤ × ℤ
+discharges t l = picked t l.east l.north (neg_ℤ l.east) (neg_ℤ l.north)
 
-pub quarter_is : (l : Leaf) (east north : ℤ) → east ≡ neg_ℤ l.north → north ≡ l.east
-    → record { water = l.water; east = east; north = north } ≡ quarter_leaf l
-quarter_is l east north e f = λ i. record { water = l.water; east = e i; north = f i }
+discharges_turn : (t : Turn) (l : Leaf) → record { water = l.water; east = (discharges t l).0; north = (discharges t l).1 } ≡ turned_leaf (number_of t) l
+discharges_turn t l = grind (arith, neg_ℤ-neg_ℤ)
 
-pub reversible_flip : (l : Leaf) → Reversible l → Reversible (flip_leaf l)
-reversible_flip l h = record { east = omega (arith, abs_negate l.east, h.east); north = h.north }
+east_kept : (t : Turn) (l : Leaf) → Reversible l → unsigned_abs (discharges t l).0 < 2 ^ 63
+east_kept t l h = grind (arith, abs_negate l.east, abs_negate l.north)
 
-pub reversible_quarter : (l : Leaf) → Reversible l → Reversible (quarter_leaf l)
-reversible_quarter l h = record { east = omega (arith, abs_negate l.north, h.north); north = h.east }
+north_kept : (t : Turn) (l : Leaf) → Reversible l → unsigned_abs (discharges t l).1 < 2 ^ 63
+north_kept t l h = grind (arith, abs_negate l.east, abs_negate l.north)
+
+-- the record with two of its four discharges in 64 bits
+pub record_turned : (l : Leaf) → Reversible l → (t : Turn) (r : ℤ × ℤ)
+    → r ≡ picked t (to_z w64 (of_z w64 l.east)) (to_z w64 (of_z w64 l.north)) (to_z w64 (of_z w64 (pos 0 -ℤ to_z w64 (of_z w64 l.east))))
+    (to_z w64 (of_z w64 (pos 0 -ℤ to_z w64 (of_z w64 l.north))))
+    → record { water = l.water; east = to_z w64 (of_z w64 r.0); north = to_z w64 (of_z w64 r.1) } ≡ turned_leaf (number_of t) l
+record_turned l h t r e =
+    let is : r ≡ discharges t l = e ∙ (λ i. picked t (kept_sign l.east h.east i) (kept_sign l.north h.north i) (other_sign l.east h.east i) (other_sign l.north h.north i)) in
+    (λ i. record { water = l.water; east = to_z w64 (of_z w64 (is i).0); north = to_z w64 (of_z w64 (is i).1) })
+    ∙ (λ i. record { water = l.water; east = kept_sign (discharges t l).0 (east_kept t l h) i; north = kept_sign (discharges t l).1 (north_kept t l h) i })
+    ∙ discharges_turn t l
 
 -- ---- the records of a valid basin can change their signs
 pub reversible : (b : Basin) → ValidBasin b → (i : ℕ) (d : Leaf) → i < length b.tables.leaves → Reversible (slice_index_or b.tables.leaves i d)

@@ -3,18 +3,20 @@ ghost use Rattle.std.specs.Prelude.{◌≡◌};
 ghost use Rattle.turns.specs.Laws.{Turn0Stays, TurnsCompose};
 ghost use Rattle.turns.specs.Turns.{composed};
 
+use crate::eight::Turn;
+use crate::eight::Turn::{F0, F1, F2, F3, R0, R1, R2, R3};
 use basin::refusal::Refusal;
 
-/// For each turn, in its row, the turns that it makes when turn 0, 1 .. 7 follows it.
-const COMPOSITES: [[u8; 8]; 8] = [
-    [0, 1, 2, 3, 4, 5, 6, 7],
-    [1, 2, 3, 0, 7, 4, 5, 6],
-    [2, 3, 0, 1, 6, 7, 4, 5],
-    [3, 0, 1, 2, 5, 6, 7, 4],
-    [4, 5, 6, 7, 0, 1, 2, 3],
-    [5, 6, 7, 4, 3, 0, 1, 2],
-    [6, 7, 4, 5, 2, 3, 0, 1],
-    [7, 4, 5, 6, 1, 2, 3, 0],
+/// For each turn, in its row, the turns that it makes when R0, R1 .. F3 follows it.
+const COMPOSITES: [[Turn; 8]; 8] = [
+    [R0, R1, R2, R3, F0, F1, F2, F3],
+    [R1, R2, R3, R0, F3, F0, F1, F2],
+    [R2, R3, R0, R1, F2, F3, F0, F1],
+    [R3, R0, R1, R2, F1, F2, F3, F0],
+    [F0, F1, F2, F3, R0, R1, R2, R3],
+    [F1, F2, F3, F0, R3, R0, R1, R2],
+    [F2, F3, F0, F1, R2, R3, R0, R1],
+    [F3, F0, F1, F2, R1, R2, R3, R0],
 ];
 
 /// The turn that turn `first` and then turn `second` make.
@@ -23,8 +25,7 @@ pub fn composite(first: u32, second: u32) -> Result<u32, Refusal>
     ensures none { Turn0Stays }
     ensures twice { TurnsCompose }
 {
-    if first > 7 || second > 7 {
-        return Err(Refusal::OutOfRange);
-    }
+    let first = Turn::try_from(first)?;
+    let second = Turn::try_from(second)?;
     Ok(COMPOSITES[first as usize][second as usize] as u32)
 }

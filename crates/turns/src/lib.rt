@@ -3,6 +3,7 @@
 #![tactic(auto)]
 
 pub mod composite;
+pub mod eight;
 pub mod entry;
 pub mod place;
 pub mod table;

@@ -1,27 +1,29 @@
 // Turning a table.
 ghost use Rattle.std.specs.Prelude.{◌≡◌, ℕ, ◌*◌, ◌<◌, ◌≤◌, length, slice_index_or};
+ghost use Rattle.turns.specs.Eight.{number_of};
 ghost use Rattle.turns.specs.Laws.{TableStays, TableTurnsCompose};
 ghost use Rattle.turns.specs.Turns.{TurnedTable};
 
+use crate::eight::Turn;
 use crate::entry::Turns;
-use crate::place::{moved, undone};
-use basin::size::place;
+use crate::place::moved;
+use basin::square::Square;
 
 /// Writes the table `from`, turned, to the table `to`; both have `n` by `n` entries.
-pub fn turn_table<T: Turns>(n: usize, from: &[T], to: &mut [T], turn: u8)
+pub fn turn_table<T: Turns>(n: usize, from: &[T], to: &mut [T], turn: Turn)
     requires least { 1 ≤ n }
     requires most { n ≤ 64 }
-    requires turn { turn < 8 }
     requires from { length from.now ≡ n * n }
     requires to { length to.old ≡ n * n }
     requires can { (i : ℕ) (d : T) → i < length from.now → T.Turns.can (slice_index_or from.now i d) }
-    ensures turned { TurnedTable T.Turns.act n turn from.now to.new }
+    ensures turned { TurnedTable T.Turns.act n (number_of turn) from.now to.new }
     ensures none { TableStays T.Turns.act }
     ensures twice { TableTurnsCompose T.Turns.act }
 {
-    let back = undone(turn);
-    for i in 0..to.len() {
-        let (x, y) = moved(n, i % n, i / n, back);
-        to[i] = from[place(n, x, y)].turned(turn);
+    let back = turn.undone();
+    for (i, entry) in to.iter_mut().enumerate() {
+        let (x, y) = (i % n, i / n);
+        let source = moved(Square { x, y, n }, back);
+        *entry = from[source.entry()].turned(turn);
     }
 }

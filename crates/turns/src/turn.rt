@@ -4,13 +4,15 @@ ghost use Rattle.basin.specs.Basins.{tables, basin_of, ValidBasin};
 ghost use Rattle.basin.specs.Totals.{total};
 ghost use Rattle.turns.specs.Turns.{answered, turn_of};
 
+use crate::eight::Turn;
 use crate::table::turn_table;
 use basin::head::Head;
 use basin::leaf::Leaf;
 use basin::refusal::Refusal;
-use tables::validity::validate;
+use tables::survey::Survey;
 
 /// Writes a basin, turned, to a second set of tables, and answers its head.
+// each table is a slice of its own, as the caller keeps them
 pub fn turn(
     head: Head,
     levels: &[u8],
@@ -25,21 +27,15 @@ pub fn turn(
     ensures valid { IfOk result (λ h. ValidBasin (basin_of h second_levels.new second_beds.new second_leaves.new)) }
     ensures total { IfOk result (λ h. total (basin_of h second_levels.new second_beds.new second_leaves.new) ≡ total (basin_of head levels.now beds.now leaves.now)) }
 {
-    let squares = head.squares();
-    if second_levels.len() != squares
-        || second_beds.len() != squares
-        || second_leaves.len() != squares
-    {
+    if !head.fits(second_levels, second_beds, second_leaves) {
         return Err(Refusal::TableLength);
     }
-    validate(head, levels, beds, leaves)?;
-    if turn > 7 {
-        return Err(Refusal::OutOfRange);
-    }
+    let survey = Survey::new(head, levels, beds, leaves)?;
+    let turn = Turn::try_from(turn)?;
     let n = head.side();
-    turn_table(n, levels, second_levels, turn as u8);
-    turn_table(n, beds, second_beds, turn as u8);
-    turn_table(n, leaves, second_leaves, turn as u8);
+    turn_table(n, survey.levels, second_levels, turn);
+    turn_table(n, survey.beds, second_beds, turn);
+    turn_table(n, survey.leaves, second_leaves, turn);
     Ok(head)
 }
 

@@ -4,7 +4,7 @@ use Rattle.basin.specs.Basins.{basin_of}
 use Rattle.lists.proofs.Served.{Next}
 use Rattle.lists.proofs.replay.replay.Given as goal
 
-abbrev pub invariant-loop-i : goal.invariant-loop-i
-invariant-loop-i g l =
-    Next g.R.FlowRule.meaning (length l.initial.work) l.i l.initial.entries l.entries
+abbrev pub invariant-loop-entry : goal.invariant-loop-entry
+invariant-loop-entry g l =
+    Next g.R.FlowRule.meaning (length l.initial.work) l.entry-index l.initial.entries l.entries
     (basin_of l.initial.head l.initial.levels l.beds l.initial.leaves) (basin_of l.head l.levels l.beds l.leaves) l.initial.work l.work

@@ -1,3 +1,0 @@
--- The lemmas that the proofs use.
-pub mod Beds
-pub mod Dry
