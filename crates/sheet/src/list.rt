@@ -5,8 +5,8 @@ ghost use Rattle.tables.specs.Surveys.{surveyed};
 ghost use Rattle.sheet.specs.Lines.{lines_at};
 
 use crate::line::{Line, line_at};
-use encode::tree::Node;
 use basin::quarters::Quarters;
+use encode::tree::Node;
 use std::alloc::{AllocError, Global};
 use tables::survey::Survey;
 
