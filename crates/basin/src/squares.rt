@@ -1,8 +1,9 @@
 // Places and neighbours of squares.
 ghost use Rattle.std.specs.Prelude.{◌≡◌, ◌+◌, ◌*◌, ◌/◌, ◌<◌};
-ghost use Rattle.basin.specs.Places.{EastOf, NorthOf, WestOf, SouthOf};
+ghost use Rattle.basin.specs.Places.{EastOf, NorthOf, WestOf, SouthOf, NextOf};
 ghost use Rattle.basin.specs.Plots.{Covered, Spans};
 
+use crate::dir::Dir;
 use crate::plot::Plot;
 use crate::sides::Sides;
 use crate::size::place;
@@ -30,49 +31,19 @@ impl Square {
         }
     }
 
-    /// The next square eastward, if there is one.
-    pub fn east(self) -> Option<Square>
-        ensures { EastOf self.x self.y self.n result }
+    /// The next square in a direction, if the basin has one there.
+    pub fn next(self, dir: Dir) -> Option<Square>
+        ensures { NextOf dir self.x self.y self.n result }
     {
         let Square { x, y, n } = self;
-        if x + 1 < n {
-            Some(Square { x: x + 1, y, n })
-        } else {
-            None
-        }
-    }
-
-    /// The next square northward, if there is one.
-    pub fn north(self) -> Option<Square>
-        ensures { NorthOf self.x self.y self.n result }
-    {
-        let Square { x, y, n } = self;
-        if y + 1 < n {
-            Some(Square { x, y: y + 1, n })
-        } else {
-            None
-        }
-    }
-
-    /// The next square westward, if there is one.
-    pub fn west(self) -> Option<Square>
-        ensures { WestOf self.x self.y self.n result }
-    {
-        let Square { x, y, n } = self;
-        if x > 0 {
-            Some(Square { x: x - 1, y, n })
-        } else {
-            None
-        }
-    }
-
-    /// The next square southward, if there is one.
-    pub fn south(self) -> Option<Square>
-        ensures { SouthOf self.x self.y self.n result }
-    {
-        let Square { x, y, n } = self;
-        if y > 0 {
-            Some(Square { x, y: y - 1, n })
+        let (x, y) = match dir {
+            Dir::East => (x + 1, y),
+            Dir::North => (x, y + 1),
+            Dir::West => (x.checked_sub(1)?, y),
+            Dir::South => (x, y.checked_sub(1)?),
+        };
+        if x < n && y < n {
+            Some(Square { x, y, n })
         } else {
             None
         }
@@ -86,10 +57,10 @@ impl Square {
         ensures south { SouthOf self.x self.y self.n result.south }
     {
         Sides {
-            east: self.east(),
-            north: self.north(),
-            west: self.west(),
-            south: self.south(),
+            east: self.next(Dir::East),
+            north: self.next(Dir::North),
+            west: self.next(Dir::West),
+            south: self.next(Dir::South),
         }
     }
 }
