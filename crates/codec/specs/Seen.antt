@@ -10,6 +10,11 @@ abbrev pub seen : Result Head FileFault → Result Heading FileFault
 seen (Ok h) = Ok (heading h)
 seen (Err e) = Err e
 
+-- with the place after it
+abbrev pub head_seen : Result (Head × ℕ) FileFault → Result (Heading × ℕ) FileFault
+head_seen (Ok h) = Ok (heading h.0, h.1)
+head_seen (Err e) = Err e
+
 -- only whether it was read
 abbrev pub whether : {A : Type 0} → Result A FileFault → Result (Unit {0}) FileFault
 whether (Ok x) = Ok tt

@@ -47,7 +47,7 @@ fn read_body(
 pub fn table_length(bytes: &[u8]) -> usize
     ensures { result ≡ squares_of (head_at bytes.now) }
 {
-    read_head(&mut Reader { bytes, at: 0 }).map_or(0, |head| head.squares())
+    read_head(bytes).map_or(0, |(head, _)| head.squares())
 }
 
 /// Reads a basin's file into its head and three tables. What it grants is a valid basin; where it refuses, the tables are as they were.
@@ -60,8 +60,8 @@ pub fn read(
     ensures read { (seen result, tables levels.new beds.new leaves.new) ≡ read_of bytes.now (tables levels.old beds.old leaves.old) }
     ensures valid { IfOk result (λ h. ValidBasin (basin_of h levels.new beds.new leaves.new)) }
 {
-    let mut reader = Reader { bytes, at: 0 };
-    let head = read_head(&mut reader)?;
+    let (head, at) = read_head(bytes)?;
+    let mut reader = Reader { bytes, at };
     let squares = head.squares();
     // Arrays, since the library takes no heap.
     let mut shape = [0; MOST];

@@ -2,7 +2,7 @@
 ghost use Rattle.std.specs.Prelude.{◌≡◌};
 ghost use Rattle.numbers.specs.Readers.{Reads};
 ghost use Rattle.codec.specs.Files.{ranged_at, head_at};
-ghost use Rattle.codec.specs.Seen.{seen};
+ghost use Rattle.codec.specs.Seen.{head_seen};
 
 use crate::fault::FileFault;
 use basin::head::Head;
@@ -21,17 +21,18 @@ pub fn read_ranged(reader: &mut Reader<'_>, least: u64, most: u64) -> Result<u64
     }
 }
 
-/// The head that the file begins with.
-pub fn read_head(reader: &mut Reader<'_>) -> Result<Head, FileFault>
-    requires { reader.old.at ≡ 0 }
-    ensures { Reads (λ bs _. head_at bs) reader.old reader.new (seen result) }
+/// The head that the file begins with, and the place after it.
+pub fn read_head(bytes: &[u8]) -> Result<(Head, usize), FileFault>
+    ensures { head_seen result ≡ head_at bytes.now }
 {
-    let levels = read_ranged(reader, 0, 6)?;
-    let width = read_ranged(reader, 1, 1_000)?;
-    let loose = read_ranged(reader, 0, 1_000_000)?;
-    Ok(Head {
+    let mut reader = Reader { bytes, at: 0 };
+    let levels = read_ranged(&mut reader, 0, 6)?;
+    let width = read_ranged(&mut reader, 1, 1_000)?;
+    let loose = read_ranged(&mut reader, 0, 1_000_000)?;
+    let head = Head {
         levels: levels as u8,
         width: width as u16,
         loose: loose as u32,
-    })
+    };
+    Ok((head, reader.at))
 }

@@ -15,14 +15,13 @@ use Rattle.codec.proofs.file.read.Goals.{After-is_balanced, at-returns, at-retur
 pub returns-in_err-head-clause-read : goal.returns-in_err-head-clause-read
 returns-in_err-head-clause-read c =
     let p = err_from_is_err_and c.from_residual.result c.from_residual.ensures.1 in
-    rw (p.1, p.2) (read_refused _ _ _ (file_no_head c.args.bytes.now _ (sym c.in_err-head.ensures.1)))
+    rw (p.1, p.2) (read_refused _ _ _ (file_no_head c.args.bytes.now _ (sym c.in_err-head.ensures)))
 
 pub returns-in_err-read_body-clause-read : goal.returns-in_err-read_body-clause-read
 returns-in_err-read_body-clause-read c =
     let p = err_from_is_err_and c.from_residual-in_err-read_body.result c.from_residual-in_err-read_body.ensures.1 in
-    let head = c.in_ok-head.ensures in
-    let e = no_body _ _ (rw head.0 at c.in_err-read_body.ensures.whether) in
-    rw (p.1, p.2) (read_refused _ _ _ (file_no_body c.args.bytes.now (heading c.in_ok-head.head) _ _ (sym head.1) e))
+    let e = no_body _ _ c.in_err-read_body.ensures.whether in
+    rw (p.1, p.2) (read_refused _ _ _ (file_no_body c.args.bytes.now (heading c.in_ok-head.head) c.in_ok-head.at _ (sym c.in_ok-head.ensures) e))
 
 -- the file, once the balance of what was read is known
 told : (c : After-is_balanced)
@@ -31,9 +30,8 @@ told : (c : After-is_balanced)
     (Ok (basin (heading c.in_ok-head.head) (tables c.read_body.new.levels c.read_body.new.beds c.read_body.new.leaves)))
     (Err (Tree (Unbalanced (length c.args.bytes.now))))
 told c =
-    let head = c.in_ok-head.ensures in
-    file_told c.args.bytes.now (heading c.in_ok-head.head) _ c.side.result _ c.is_balanced.result
-    (sym head.1) (rw head.0 at c.in_ok-read_body.ensures.whether) (rw head.0 at c.in_ok-read_body.ensures.tables)
+    file_told c.args.bytes.now (heading c.in_ok-head.head) c.in_ok-head.at c.side.result _ c.is_balanced.result
+    (sym c.in_ok-head.ensures) c.in_ok-read_body.ensures.whether c.in_ok-read_body.ensures.tables
     c.side.ensures.value c.is_balanced.ensures
 
 -- and where it is balanced
