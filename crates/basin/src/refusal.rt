@@ -43,6 +43,7 @@ pub enum Refusal {
 }
 
 impl Refusal {
+    // A method beside the derives: `refusal.number()` says at the call what `u8::from(refusal)` leaves to be looked up.
     /// The refusal's number.
     pub fn number(self) -> u8
         ensures { result ≡ number_of self }

@@ -43,6 +43,7 @@ impl Window {
         requires { (x : ℕ) → self.west ≤ x → x < self.east → F.pre test.now x y }
         ensures { MatchBool result ((x : ℕ) → self.west ≤ x → x < self.east → F.post test.now x y true) ((x : ℕ) × ((self.west ≤ x) × ((x < self.east) × F.post test.now x y false))) }
     {
+        // The range is the window's: its numbers are what the test is asked.
         for x in self.west..self.east {
             if !test(x, y) {
                 return false;
@@ -56,6 +57,7 @@ impl Window {
         requires { (x y : ℕ) → Seen self x y → F.pre test x y }
         ensures { MatchBool result ((x y : ℕ) → Seen self x y → F.post test x y true) ((x : ℕ) × ((y : ℕ) × (Seen self x y × F.post test x y false))) }
     {
+        // As above: numbers of rows, not places in a table.
         for y in self.south..self.north {
             if !self.row_passes(y, &test) {
                 return false;

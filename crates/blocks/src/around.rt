@@ -25,6 +25,7 @@ pub fn home(head: Head, levels: &[u8], i: usize) -> Block
     }
 }
 
+// Tables one by one, with their lengths asked for: a survey would ask more of callers than this needs.
 /// What the leaf at an address borders on in a direction.
 pub fn edge(head: Head, levels: &[u8], block: Block, dir: Dir) -> Edge
     requires lies { Lies head.levels block }

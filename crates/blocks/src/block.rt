@@ -1,5 +1,6 @@
 // Addresses of blocks, and what a leaf borders on.
 
+// Where an address lies (`Lies`) hangs on the basin's levels too; a type that says it would carry the head along in every address.
 /// The address of a block: the one of its level that is the `x`-th eastward and the `y`-th northward, counted from 0.
 #[derive(Clone, Copy)]
 pub struct Block {

@@ -24,6 +24,7 @@ pub fn at_edge(head: Head, block: Block, dir: Dir) -> bool
     ensures { result ≡ is_at_edge dir (as_block block) }
 {
     let count = side(block.level);
+    // A match: four short arms, one a direction, which a table of closures would only spread out.
     match dir {
         Dir::East => block.x + 1 == count,
         Dir::North => block.y + 1 == count,
@@ -41,6 +42,7 @@ pub fn beyond(head: Head, block: Block, dir: Dir) -> Option<Block>
         return None;
     }
     let Block { level, x, y } = block;
+    // A match: four short arms, one a direction, which a table of closures would only spread out.
     let (x, y) = match dir {
         Dir::East => (x + 1, y),
         Dir::North => (x, y + 1),
@@ -69,6 +71,7 @@ pub fn first(head: Head, block: Block, dir: Dir) -> Block
     ensures value { as_block result ≡ the_first dir (as_block block) }
     ensures lies { Lies head.levels result }
 {
+    // A match: four short arms, one a direction, which a table of closures would only spread out.
     match dir {
         Dir::East | Dir::North => Block {
             level: block.level + 1,
@@ -88,12 +91,14 @@ pub fn first(head: Head, block: Block, dir: Dir) -> Block
     }
 }
 
+// Not one function with `first`: each arm has other offsets, and each caller wants one of the two at a time.
 /// The northern or eastern of those two quarters.
 pub fn second(head: Head, block: Block, dir: Dir) -> Block
     requires { (Lies head.levels block) × (block.level < head.levels) }
     ensures value { as_block result ≡ the_second dir (as_block block) }
     ensures lies { Lies head.levels result }
 {
+    // A match: four short arms, one a direction, which a table of closures would only spread out.
     match dir {
         Dir::East => Block {
             level: block.level + 1,

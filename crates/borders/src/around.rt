@@ -34,6 +34,7 @@ fn border<R: FlowRule>(
     ensures value { result ≡ border_of (R.meaning rule.now) pace.time pace.width head.levels beds.now leaves.now dir near (as_side edge) }
     ensures small { SmallBorder result }
 {
+    // A match: an edge is data of the tree, with other blocks in each case.
     match edge {
         Edge::Wall => {
             let wall = at_wall(rule, near, dir, pace);
@@ -66,6 +67,7 @@ fn border<R: FlowRule>(
     }
 }
 
+// Tables one by one, with their lengths asked for: a survey would ask more of callers than this needs.
 /// What the four sides of a leaf do to it.
 pub fn borders<R: FlowRule>(
     rule: &R,

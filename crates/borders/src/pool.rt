@@ -1,6 +1,7 @@
 // A leaf's water as its faces see it.
 use basin::leaf::Leaf;
 
+// What these numbers keep on a valid basin (`Kept`) is no part of the type: `pool` reads tables of any content, and a type would ask more of it.
 /// The numbers of a leaf that its faces go by.
 #[derive(Clone, Copy)]
 pub struct Pool {

@@ -26,6 +26,7 @@ fn speed(discharge: i64, water: u32) -> i64
     }
 }
 
+// Tables one by one, with their lengths asked for: a survey would ask more of callers than this needs.
 /// The numbers of the leaf at an address.
 pub fn pool(head: Head, beds: &[u16], leaves: &[Leaf], block: Block) -> Pool
     requires lies { Lies head.levels block }
@@ -57,6 +58,7 @@ pub fn side_at(pool: Pool, sill: u64, dir: Dir) -> Side
         return Side { h: 0, u: 0, v: 0 };
     }
     let h = (pool.surface - sill) as u32;
+    // A match: four short arms, one a direction, which a table of closures would only spread out.
     match dir {
         Dir::East | Dir::West => wet_side(h, pool.eastward, pool.northward),
         Dir::North | Dir::South => wet_side(h, pool.northward, pool.eastward),

@@ -38,6 +38,7 @@ fn share_of<R: FlowRule>(
     ensures along { result.along ≡ along_by (R.meaning rule.now) pace.time pace.width dir (face_of (state_of near) (state_of far) length) }
     ensures small { SmallShare result }
 {
+    // A match: four short arms, one a direction, which a table of closures would only spread out.
     match dir {
         Dir::East | Dir::North => {
             let ahead = cross(rule, near, far, length, pace);

@@ -44,6 +44,7 @@ impl Spot {
     }
 }
 
+// Tables come one by one, since it is here that they become a survey.
 /// The leaf at a square, or the first refusal that every call at a square may meet: table lengths, no valid basin, off the grid.
 pub fn locate(
     head: Head,

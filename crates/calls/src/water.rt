@@ -16,6 +16,7 @@ fn out_of_range(amount: u32) -> bool
     amount < 1 || amount > 122_880_000
 }
 
+// Tables come one by one: the types say which of them the call may write, and the caller keeps them in memory of his own.
 /// Adds an amount of water to the leaf at a square, and answers the leaf's new surface number.
 pub fn pour(
     head: Head,
@@ -39,6 +40,7 @@ pub fn pour(
     Ok(refill(spot, beds, leaves, water as u32))
 }
 
+// Tables come one by one: the types say which of them the call may write, and the caller keeps them in memory of his own.
 /// Takes an amount of water from the leaf at a square, clips its discharges, and answers the leaf's new surface number.
 pub fn draw(
     head: Head,
@@ -62,6 +64,7 @@ pub fn draw(
     Ok(refill(spot, beds, leaves, water - amount))
 }
 
+// Tables come one by one: the types say which of them the call may write, and the caller keeps them in memory of his own.
 /// Moves all of the loose account into the leaf at a square, and answers how much that was.
 pub fn settle(
     head: &mut Head,

@@ -76,6 +76,7 @@ fn ahead(one: Side, two: Side) -> i64
     fastest.max(0)
 }
 
+// Not one function with `ahead`: sign, `min` for `max` and the bound differ, and two closures would have to say so.
 /// The speed of the fastest wave from side 2 toward side 1, as a negative number.
 fn behind(one: Side, two: Side) -> i64
     ensures value { result ≡ behind_of (state_of one) (state_of two) }

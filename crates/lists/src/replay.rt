@@ -10,6 +10,7 @@ use basin::head::Head;
 use basin::leaf::Leaf;
 use flow::rule::FlowRule;
 
+// Tables come one by one: the types say which of them the call may write, and the caller keeps them in memory of his own.
 /// Performs the calls of a list in order, each on the basin that the one before left, and writes each reply beside its call. A step is lent the
 /// first entries of the work table.
 ///

@@ -10,6 +10,7 @@ use basin::leaf::Leaf;
 use basin::refusal::Refusal;
 use tables::survey::Survey;
 
+// Tables come one by one, since it is here that they become a survey.
 /// What there is at a square: its leaf's level, water, surface number and discharges.
 pub fn look(
     head: Head,

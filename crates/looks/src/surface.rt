@@ -30,6 +30,7 @@ pub fn block_beds(beds: &[u16], n: usize, x: usize, y: usize, count: usize) -> u
     ensures most { result ≤ 65535 * 4096 }
 {
     let mut sum = 0;
+    // A `map` over the rows would have to bound each row's start inside its closure; the loop does so once.
     for j in 0..count {
         let start = (y + j) * n + x;
         sum += row_beds(&beds[start..start + count]);

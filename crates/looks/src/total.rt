@@ -35,6 +35,7 @@ fn all_water(survey: &Survey<'_>) -> u64
     sum
 }
 
+// Tables come one by one, since it is here that they become a survey.
 /// The water of all leaves and the loose account.
 pub fn total(head: Head, levels: &[u8], beds: &[u16], leaves: &[Leaf]) -> Result<u64, Refusal>
     ensures { result ≡ total_of (basin_of head levels.now beds.now leaves.now) }

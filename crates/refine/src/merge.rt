@@ -14,6 +14,7 @@ use basin::refusal::Refusal;
 use calls::spot::Spot;
 use tables::survey::Survey;
 
+// Tables come one by one: the types say which of them the call may write, and the caller keeps them in memory of his own.
 /// Joins the leaf at a square with its three siblings, and answers the new leaf's surface number.
 pub fn merge(
     head: Head,

@@ -23,6 +23,7 @@ fn twin(side: usize, x: usize) -> usize
     }
 }
 
+// `Slow` is asked and no part of `Leaf`: a leaf's record may hold any numbers until it is validated.
 /// Two leaves' records added up.
 pub fn both(a: Leaf, b: Leaf) -> Leaf
     requires few { a.water + b.water ≤ 122880000 }

@@ -13,6 +13,7 @@ use basin::refusal::Refusal;
 use calls::spot::Spot;
 use tables::survey::Survey;
 
+// Tables come one by one: the types say which of them the call may write, and the caller keeps them in memory of his own.
 /// Cuts the leaf at a square into four, and answers the water that is left over, which joins the loose account.
 pub fn split(
     head: &mut Head,

@@ -13,6 +13,7 @@ use basin::size::side;
 use blocks::around::home;
 use blocks::places::corner;
 
+// Levels and work table one by one, with their lengths asked for: a survey would ask a valid basin of callers that need none.
 /// The work table's entry of the leaf that the square of entry `i` lies in.
 fn entry_of(head: Head, levels: &[u8], work: &[Leaf], i: usize) -> Leaf
     requires shaped { Shaped head.levels levels.now work.now }

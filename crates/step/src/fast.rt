@@ -41,6 +41,7 @@ fn is_fast(width: u16, side: usize, leaf: Leaf, time: u32) -> bool
     quarter < 4 * fastest(side, leaf) * time as u64
 }
 
+// Tables one by one, with their lengths asked for: a survey would ask more of callers than this needs.
 /// Whether the time is too long for some leaf.
 pub fn too_fast(head: Head, levels: &[u8], leaves: &[Leaf], time: u32) -> bool
     requires levels { length levels.now ≡ 2 ^ head.levels * 2 ^ head.levels }

@@ -53,6 +53,7 @@ fn advance<'x, R: FlowRule>(
     Ok(moved)
 }
 
+// Tables come one by one: the types say which of them the call may write, and the caller keeps them in memory of his own.
 /// Moves the water of a basin by a rule for `time` milliseconds, and answers how much it moved in all. The work table's content is free on
 /// entry; once the time is found in its range, all of its records are dry at the end, granted or refused.
 pub fn step<R: FlowRule>(

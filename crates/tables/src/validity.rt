@@ -59,6 +59,7 @@ fn fits_block(levels: &[u8], leaves: &[Leaf], n: usize, s: usize, x: usize, y: u
     true
 }
 
+// Tables come one by one: they are no survey before this has looked at them.
 /// Whether a square's own numbers are in their ranges, and it fits the block of its level.
 fn square_valid(
     head: Head,
@@ -82,6 +83,7 @@ fn square_valid(
     fits_block(levels, leaves, n, side(head.levels - level), x, y)
 }
 
+// Tables come one by one: they are no survey before this has looked at them.
 /// Whether head and tables, of the right lengths, are a valid basin.
 fn is_valid(head: Head, levels: &[u8], beds: &[u16], leaves: &[Leaf]) -> bool
     requires { Full (heading head) (tables levels.now beds.now leaves.now) }
@@ -92,6 +94,7 @@ fn is_valid(head: Head, levels: &[u8], beds: &[u16], leaves: &[Leaf]) -> bool
     valid && is_balanced(levels, n)
 }
 
+// Tables come one by one: they are no survey before this has looked at them.
 /// Whether head and tables are a valid basin, and which of the first two refusals says that they are not.
 pub fn validate(head: Head, levels: &[u8], beds: &[u16], leaves: &[Leaf]) -> Result<(), Refusal>
     ensures verdict { result ≡ validity (basin_of head levels.now beds.now leaves.now) }

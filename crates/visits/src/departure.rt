@@ -1,6 +1,7 @@
 // What leaves a leaf.
 use basin::sides::Sides;
 
+// 0 is what a face that is not there adds to a sum; an `Edge` of numbers would have to be shown of the shape of the `Edge` of blocks.
 /// The water that leaves a leaf across the first and the second face of a side, 0 where there is none.
 #[derive(Clone, Copy)]
 pub struct Outflow {

@@ -27,6 +27,7 @@ pub fn send(head: Head, work: &mut [Leaf], edge: Edge, outflow: Outflow)
     requires room { RoomOn head.levels work.old edge outflow }
     ensures { work.new ≡ sent head.levels work.old (as_side edge) outflow.first outflow.second }
 {
+    // A match: an edge is data of the tree, with other blocks in each case.
     match edge {
         Edge::Wall => {}
         Edge::One(block) => add_water(head, work, block, outflow.first),
