@@ -114,6 +114,7 @@ fn across(side: Side) -> i64
     momentum(side, side.u) + side.pressure() as i64
 }
 
+// `a` and `b` stay two letters of the formulas below, with their bound asked for three times: a type of the two would hide them.
 /// What both sides bring, each weighed by the wave that leaves it for the face.
 fn weighed(a: i64, b: i64, f1: i64, f2: i64) -> i64
     requires a { unsigned_abs a ≤ 27200 }

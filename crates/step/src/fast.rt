@@ -11,6 +11,7 @@ use basin::leaf::Leaf;
 use basin::size::side;
 use flow::root::root;
 
+// A leaf's range hangs on its area (`InRange`), so it is asked for and no part of `Leaf`.
 /// The larger of a wet leaf's two speeds plus the speed of its waves.
 fn fastest(side: usize, leaf: Leaf) -> u64
     requires wet { 1 ≤ leaf.water }

@@ -13,6 +13,7 @@ fn close_levels(a: u8, b: u8) -> bool
     a.abs_diff(b) <= 1
 }
 
+// (x, y) and n one by one, and no `Square`: tables of any size are judged here, and a square's basin has at most 64 in a row.
 /// The level of a square.
 fn level_at(levels: &[u8], n: usize, x: usize, y: usize) -> u8
     requires full { length levels.now ≡ n * n }

@@ -10,6 +10,7 @@ use basin::leaf::Leaf;
 use blocks::block::{Block, Edge};
 use blocks::places::corner;
 
+// The work table's length is asked for, as its content changes with each send; a type of table and length would be rebuilt each time.
 /// Adds water to the entry of the leaf at an address.
 fn add_water(head: Head, work: &mut [Leaf], block: Block, amount: u32)
     requires lies { Lies head.levels block }
