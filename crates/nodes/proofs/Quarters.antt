@@ -1,5 +1,5 @@
 -- The quarters of a node, and what reading them leaves.
-use Rattle.std.proofs.Common.{◌≡◌, ℕ, ◌+◌, ◌-◌, ◌*◌, ◌^◌, List, Ok, Result, Bor, sym, ap, ◌∙◌, add-mul, arith}
+use Rattle.std.proofs.Common.{◌≡◌, ℕ, ◌+◌, ◌-◌, ◌*◌, ◌^◌, List, Ok, Err, Result, Bor, sym, ap, ◌∙◌, add-mul, arith}
 use Rattle.basin.specs.declared.leaf.Leaf.{Leaf}
 use Rattle.numbers.specs.Numbers.{number_at}
 use Rattle.numbers.specs.Readers.{ended}
@@ -10,7 +10,7 @@ use Rattle.basin.specs.declared.quarters.Quarters.{Quarters}
 use Rattle.nodes.specs.Trees.{Tree, one, leaf_at, node_at, quarters_at}
 use Rattle.nodes.specs.Paint.{Drawn, level_of, record_of}
 use Rattle.nodes.specs.Spots.{corner_of, Quarter, Quartered, WholeSpot}
-use Rattle.nodes.proofs.Ways.{node_leaf, node_fork, drawn_four, place_four}
+use Rattle.nodes.proofs.Ways.{node_leaf, node_fork, no_sw, no_se, no_nw, drawn_four, place_four}
 
 -- reading a node of a basin of L levels, with this many levels below it and its corner at place p, leads from place a of the bytes to place b with
 -- the answer x, and from two tables to the next two
@@ -25,7 +25,7 @@ corner_is s q east north h =
 
 -- the node of a quarter
 module _ {s q : Spot} {east north : ℕ} (h : Quarter s east north q) where
-  pub quarter_next : (bs cs : Bor (List ℕ)) → cs ≡ bs → (a : ℕ) (r : Result ℕ TreeFault)
+  quarter_next : (bs cs : Bor (List ℕ)) → cs ≡ bs → (a : ℕ) (r : Result ℕ TreeFault)
       → r ≡ place (node_at q.height cs.now a) → r ≡ place (node_at (s.height - 1) bs.now a)
   quarter_next bs cs e a r l =
       let k : q.height ≡ s.height - 1 = omega (arith, h.height) in
@@ -84,3 +84,20 @@ pub whole_left : {L : ℕ} (s : Spot) → WholeSpot L s → (bs : List ℕ) (a :
 whole_left {L} s h bs a x b shape shape' records records' l =
     let c : corner_of s ≡ 0 = rw (h.0, h.1) (omega arith) in
     coe 0 1 (i. Left (h.3 i) (h.2 i) (c i) bs a x b shape shape' records records') l
+
+-- a fault in a quarter is the node's: each quarter is read from where the one before it ends, of the same bytes
+module _ {s : Spot} {q : Quarters Spot} (h : Quartered s q) (bs b₁ : Bor (List ℕ)) (e₁ : b₁ ≡ bs) (at a₁ : ℕ)
+    (cut : node_at s.height bs.now at ≡ quarters_at (s.height - 1) bs.now a₁) (f : TreeFault) where
+  pub fault_sw : Err f ≡ place (node_at q.sw.height b₁.now a₁) → node_at s.height bs.now at ≡ Err f
+  fault_sw e = cut ∙ no_sw (s.height - 1) bs.now a₁ f (quarter_next h.sw bs b₁ e₁ a₁ _ e)
+
+  module _ (b₂ : Bor (List ℕ)) (a₂ : ℕ) (sw : (b₂ ≡ b₁) × (Ok a₂ ≡ place (node_at q.sw.height b₁.now a₁))) where
+    pub fault_se : Err f ≡ place (node_at q.se.height b₂.now a₂) → node_at s.height bs.now at ≡ Err f
+    fault_se e =
+        cut ∙ no_se (s.height - 1) bs.now a₁ f a₂ (quarter_next h.sw bs b₁ e₁ a₁ _ sw.1) (quarter_next h.se bs b₂ (sw.0 ∙ e₁) a₂ _ e)
+
+    module _ (b₃ : Bor (List ℕ)) (a₃ : ℕ) (se : (b₃ ≡ b₂) × (Ok a₃ ≡ place (node_at q.se.height b₂.now a₂))) where
+      pub fault_nw : Err f ≡ place (node_at q.nw.height b₃.now a₃) → node_at s.height bs.now at ≡ Err f
+      fault_nw e =
+          cut ∙ no_nw (s.height - 1) bs.now a₁ f a₂ a₃
+          (quarter_next h.sw bs b₁ e₁ a₁ _ sw.1) (quarter_next h.se bs b₂ (sw.0 ∙ e₁) a₂ _ se.1) (quarter_next h.nw bs b₃ (se.0 ∙ (sw.0 ∙ e₁)) a₃ _ e)

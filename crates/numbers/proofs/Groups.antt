@@ -1,9 +1,6 @@
 -- The ways through the groups of a number.
-use Rattle.std.proofs.Common.{◌≡◌, ℕ, zero, suc, ◌+◌, ◌-◌, ◌*◌, ◌^◌, ◌<◌, ◌≤◌, min, List, [], length, get_or, take, drop, Option, Some, None, Ok, Err, Bor, sym, refl, ap, ◌∙◌, inl, inr, mul-le-mul_left, mul-one, mul-add, arith, lit<, length-drop}
+use Rattle.std.proofs.Common.{◌≡◌, ℕ, zero, suc, ◌+◌, ◌-◌, ◌*◌, ◌^◌, ◌<◌, ◌≤◌, List, length, get_or, Ok, Err, refl, mul-le-mul_left, mul-one, mul-add, arith, lit<}
 use native.Mathlib.Nat.{pow-le-pow_right}
-use Rattle.std.specs.Option.{unwrap_or}
-use Rattle.std.specs.Slice.{IsGetRangeResult}
-use Rattle.std.proofs.lemmas.List.{drop_all, get_or-drop, get_or-take, length-take, take_all}
 use Rattle.std.proofs.lemmas.Bool.{lt-ltb, le-ltb}
 use Rattle.std.proofs.lemmas.Bool.Decides.{nat_tests}
 use Rattle.numbers.specs.declared.fault.NumberFault.TheVariants.{Ended, Malformed}
@@ -19,29 +16,6 @@ pub record First (bs : List ℕ) (at : ℕ) (gs : List ℕ) : Type 0 where
   pub few : length gs ≤ 6
   pub all : length gs < 6 → length bs ≤ at + length gs
   pub each : (k b : ℕ) → k < length gs → b ≡ get_or gs k 0 → Byte bs (at + k) b
-
--- the bytes from a place on, none past the end
-rest_is : (bs : List ℕ) (at : ℕ) (r : Option (Bor (List ℕ))) (none : Bor (List ℕ)) → IsGetRangeResult bs at (length bs) r → none.now ≡ []
-    → (unwrap_or r none).now ≡ drop at bs
-rest_is bs at (Some rest) none g e = g.0.2 ∙ take_all (length bs - at) (drop at bs) (omega (arith, length-drop at bs))
-rest_is bs at None none g e =
-    e ∙ sym (drop_all at bs (elim g.0 [ inl w ↦ omega arith | inr w ↦ omega arith ]))
-
-pub first_six : (bs : List ℕ) (at m : ℕ) (r : Option (Bor (List ℕ))) (none rest : Bor (List ℕ))
-    → IsGetRangeResult bs at (length bs) r → none.now ≡ [] → rest ≡ unwrap_or r none → m ≡ min (length rest.now) 6
-    → First bs at (take m rest.now)
-first_six bs at m r none rest g z er em =
-    let e : rest.now ≡ drop at bs = ap (λ (x : Bor (List ℕ)). x.now) er ∙ rest_is bs at r none g z in
-    let n : length (take m rest.now) ≡ m = omega (arith, length-take m rest.now) in
-    let d : length rest.now ≡ length bs - at = rw e (length-drop at bs) in
-    record {
-      few = omega arith;
-      all = λ h. omega arith;
-      each = λ k b h eb. record {
-        inside = omega arith;
-        is = eb ∙ (get_or-take m rest.now k 0 (omega arith) ∙ rw e (get_or-drop at bs k 0));
-      };
-    }
 
 pub ended : (m : ℕ) (bs : List ℕ) (start at v u : ℕ) → 0 < m → length bs ≤ at → Err (Ended start) ≡ groups_at m bs start at v u
 unfolding groups_at

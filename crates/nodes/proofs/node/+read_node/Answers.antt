@@ -1,9 +1,10 @@
-use Rattle.std.proofs.Common.{◌≡◌, ◌-◌, sym, refl, ◌∙◌, inl, inr, arith, rules}
-use Rattle.basin.proofs.Sizes.{area_small}
+use Rattle.std.proofs.Common.{◌≡◌, ℕ, ◌-◌, sym, refl, ◌∙◌, inl, inr, arith, rules}
+use Rattle.nodes.specs.Trees.{node_at, quarters_at}
 use Rattle.nodes.specs.Paint.{level_of, record_of}
-use Rattle.nodes.proofs.Ways.{node_cut, node_wrong, drawn_err, drawn_ok, painted_one, no_sw, no_se, no_nw}
-use Rattle.nodes.proofs.Quarters.{quarter_next, quarter_left, leaf_is, cut_is, four_left}
+use Rattle.nodes.proofs.Ways.{node_cut, node_wrong, drawn_err, drawn_ok, painted_one}
+use Rattle.nodes.proofs.Quarters.{quarter_left, leaf_is, cut_is, four_left, fault_sw, fault_se, fault_nw}
 use Rattle.nodes.proofs.node.+read_node.Goals as goal
+use Rattle.nodes.proofs.node.+read_node.Goals.{In-Some, at-returns-in_err-read_node-in-Ok-Cut, at-returns-in_err-read_node-in-Ok-Cut-2, at-returns-in_err-read_node-in-Ok-Cut-3, at-returns-in_ok-read_node-in-Ok-Cut-3}
 
 pub returns-in_err-number : goal.returns-in_err-number
 returns-in_err-number t c =
@@ -16,11 +17,6 @@ returns-in-Err t c =
     node_wrong c.args.spot.height c.args.reader.now.bytes.now c.args.reader.now.at _ _ c.in_ok-number.ensures.1
     (λ z. omega (arith, c.in-Err.ensures.1)) (inr (λ z. omega (arith, c.in-Err.ensures.1))) in
     record { next = (c.in_ok-number.ensures.0, rw e refl); levels = drawn_err _ _ _ _ _ _ e; leaves = drawn_err _ _ _ _ _ _ e }
-
-pub read_leaf-requires : goal.read_leaf-requires
-read_leaf-requires t c =
-    let same : c.side-in-Ok-Leaf.result ≡ c.side.result = c.side-in-Ok-Leaf.ensures.value ∙ sym c.side.ensures.value in
-    rw same (area_small c.args.spot.height _ (omega arith) c.side.ensures.value)
 
 pub returns-in_err-leaf-in-Ok-Leaf : goal.returns-in_err-leaf-in-Ok-Leaf
 returns-in_err-leaf-in-Ok-Leaf t c =
@@ -47,57 +43,40 @@ returns-in_default t c =
     let e = node_wrong c.args.spot.height c.args.reader.now.bytes.now c.args.reader.now.at _ _ c.in_ok-number.ensures.1 (λ z. omega arith) (inl (one, omega (arith, c.in_default.ensures))) in
     record { next = (c.in_ok-number.ensures.0, rw e refl); levels = drawn_err _ _ _ _ _ _ e; leaves = drawn_err _ _ _ _ _ _ e }
 
+-- the node is cut
+cut : (t : ℕ) (c : In-Some t)
+    → node_at c.args.spot.height c.args.reader.now.bytes.now c.args.reader.now.at
+    ≡ quarters_at (c.args.spot.height - 1) c.args.reader.now.bytes.now c.number.new.self.at
+cut t c = cut_is c.in-Some.ensures.sw _ _ _ _ c.in_ok-number.ensures.1 (sym (rw c.in-Ok-Cut.field-0-is at c.in-Ok-Cut.ensures))
+
 pub returns-in_err-read_node-in-Ok-Cut : goal.returns-in_err-read_node-in-Ok-Cut
 returns-in_err-read_node-in-Ok-Cut t c =
-    let s = c.args.spot in
-    let bs = c.args.reader.now.bytes in
-    let h = c.in-Some.ensures in
-    let one = sym (rw c.in-Ok-Cut.field-0-is at c.in-Ok-Cut.ensures) in
-    let e₀ = c.in_ok-number.ensures.0 in
+    let first = c.in_ok-number.ensures.0 in
     let sw = c.in_err-read_node-in-Ok-Cut.ensures.next in
-    let e =
-    cut_is h.sw bs.now c.args.reader.now.at _ _ c.in_ok-number.ensures.1 one
-    ∙ no_sw (s.height - 1) bs.now _ _ (quarter_next h.sw bs _ e₀ _ _ sw.1) in
-    record { next = (sw.0 ∙ e₀, rw e (search rules)); levels = drawn_err _ _ _ _ _ _ e; leaves = drawn_err _ _ _ _ _ _ e }
+    let e = fault_sw c.in-Some.ensures c.args.reader.now.bytes _ first _ _ (cut t (at-returns-in_err-read_node-in-Ok-Cut t c).In-Some) _ sw.1 in
+    record { next = (sw.0 ∙ first, rw e (search rules)); levels = drawn_err _ _ _ _ _ _ e; leaves = drawn_err _ _ _ _ _ _ e }
 
 pub returns-in_err-read_node-in-Ok-Cut-2 : goal.returns-in_err-read_node-in-Ok-Cut-2
 returns-in_err-read_node-in-Ok-Cut-2 t c =
-    let s = c.args.spot in
-    let bs = c.args.reader.now.bytes in
-    let h = c.in-Some.ensures in
-    let one = sym (rw c.in-Ok-Cut.field-0-is at c.in-Ok-Cut.ensures) in
-    let e₀ = c.in_ok-number.ensures.0 in
+    let first = c.in_ok-number.ensures.0 in
     let sw = c.in_ok-read_node-in-Ok-Cut.ensures.next in
     let se = c.in_err-read_node-in-Ok-Cut-2.ensures.next in
-    let e₁ = sw.0 ∙ e₀ in
-    let e =
-    cut_is h.sw bs.now c.args.reader.now.at _ _ c.in_ok-number.ensures.1 one
-    ∙ no_se (s.height - 1) bs.now _ _ _ (quarter_next h.sw bs _ e₀ _ _ sw.1) (quarter_next h.se bs _ e₁ _ _ se.1) in
-    record { next = (se.0 ∙ e₁, rw e (search rules)); levels = drawn_err _ _ _ _ _ _ e; leaves = drawn_err _ _ _ _ _ _ e }
+    let e = fault_se c.in-Some.ensures c.args.reader.now.bytes _ first _ _ (cut t (at-returns-in_err-read_node-in-Ok-Cut-2 t c).In-Some) _ _ _ sw se.1 in
+    record { next = (se.0 ∙ (sw.0 ∙ first), rw e (search rules)); levels = drawn_err _ _ _ _ _ _ e; leaves = drawn_err _ _ _ _ _ _ e }
 
 pub returns-in_err-read_node-in-Ok-Cut-3 : goal.returns-in_err-read_node-in-Ok-Cut-3
 returns-in_err-read_node-in-Ok-Cut-3 t c =
-    let s = c.args.spot in
-    let bs = c.args.reader.now.bytes in
-    let h = c.in-Some.ensures in
-    let one = sym (rw c.in-Ok-Cut.field-0-is at c.in-Ok-Cut.ensures) in
-    let e₀ = c.in_ok-number.ensures.0 in
+    let first = c.in_ok-number.ensures.0 in
     let sw = c.in_ok-read_node-in-Ok-Cut.ensures.next in
     let se = c.in_ok-read_node-in-Ok-Cut-2.ensures.next in
     let nw = c.in_err-read_node-in-Ok-Cut-3.ensures.next in
-    let e₁ = sw.0 ∙ e₀ in
-    let e₂ = se.0 ∙ e₁ in
-    let e =
-    cut_is h.sw bs.now c.args.reader.now.at _ _ c.in_ok-number.ensures.1 one
-    ∙ no_nw (s.height - 1) bs.now _ _ _ _ (quarter_next h.sw bs _ e₀ _ _ sw.1) (quarter_next h.se bs _ e₁ _ _ se.1) (quarter_next h.nw bs _ e₂ _ _ nw.1) in
-    record { next = (nw.0 ∙ e₂, rw e (search rules)); levels = drawn_err _ _ _ _ _ _ e; leaves = drawn_err _ _ _ _ _ _ e }
+    let e = fault_nw c.in-Some.ensures c.args.reader.now.bytes _ first _ _ (cut t (at-returns-in_err-read_node-in-Ok-Cut-3 t c).In-Some) _ _ _ sw _ _ se nw.1 in
+    record { next = (nw.0 ∙ (se.0 ∙ (sw.0 ∙ first)), rw e (search rules)); levels = drawn_err _ _ _ _ _ _ e; leaves = drawn_err _ _ _ _ _ _ e }
 
 pub returns-in_ok-read_node-in-Ok-Cut-3 : goal.returns-in_ok-read_node-in-Ok-Cut-3
 returns-in_ok-read_node-in-Ok-Cut-3 t c =
-    let s = c.args.spot in
     let bs = c.args.reader.now.bytes in
     let h = c.in-Some.ensures in
-    let one = sym (rw c.in-Ok-Cut.field-0-is at c.in-Ok-Cut.ensures) in
     let first = c.in_ok-number.ensures.0 in
     let sw = c.in_ok-read_node-in-Ok-Cut.ensures in
     let se = c.in_ok-read_node-in-Ok-Cut-2.ensures in
@@ -107,8 +86,8 @@ returns-in_ok-read_node-in-Ok-Cut-3 t c =
     let e₂ = se.next.0 ∙ e₁ in
     let e₃ = nw.next.0 ∙ e₂ in
     let all =
-    four_left s c.in-Some.quarters h bs.now c.args.reader.now.at _ _ _ _ _ _ _ _ _ _ _ _ _ _ _ _
-    (cut_is h.sw bs.now c.args.reader.now.at _ _ c.in_ok-number.ensures.1 one)
+    four_left c.args.spot c.in-Some.quarters h bs.now c.args.reader.now.at _ _ _ _ _ _ _ _ _ _ _ _ _ _ _ _
+    (cut t (at-returns-in_ok-read_node-in-Ok-Cut-3 t c).In-Some)
     (quarter_left h.sw bs _ first _ (omega arith) _ _ _ _ _ _ _ (record { next = sw.next.1; levels = sw.levels; leaves = sw.leaves }))
     (quarter_left h.se bs _ e₁ _ (omega arith) _ _ _ _ _ _ _ (record { next = se.next.1; levels = se.levels; leaves = se.leaves }))
     (quarter_left h.nw bs _ e₂ _ (omega arith) _ _ _ _ _ _ _ (record { next = nw.next.1; levels = nw.levels; leaves = nw.leaves }))

@@ -1,21 +1,13 @@
-use Rattle.std.proofs.Common.{◌≡◌, ◌+◌, ◌-◌, ◌*◌, ◌<◌, sym, refl, ap, ◌∙◌, inl, inr, pow-suc, add-zero, add-one, arith}
+use Rattle.std.proofs.Common.{◌≡◌, ◌+◌, ◌-◌, ◌*◌, ◌<◌, sym, ap, ◌∙◌, inl, inr, pow-suc, add-one, arith}
 use Rattle.numbers.specs.Numbers.{groups_at}
-use Rattle.numbers.proofs.Groups.{first_six, ended, padded, done, more, light, kept_below, kept_small}
+use Rattle.numbers.proofs.Groups.{ended, padded, done, more, kept_below, kept_small}
 use Rattle.numbers.proofs.number.read_number.Goals as goal
 use Rattle.numbers.proofs.number.read_number.Goals.{Else-byte-lt-MORE}
-
-pub loop-k-init : goal.loop-k-init
-loop-k-init c =
-    (rw add-zero refl, omega arith, refl, first_six c.args.bytes.now c.args.at c.min.result c.get.result _ c.unwrap_or-rest.result c.get.ensures.lookup refl c.unwrap_or-rest.ensures c.min.ensures)
 
 pub returns-then-k-gt0 : goal.returns-then-k-gt0
 returns-then-k-gt0 c =
     let all = c.loop-k.invariant.3 in
     padded (6 - c.loop-k.k) _ _ _ _ _ _ (omega (arith, all.few)) (all.each _ _ (omega arith) c.from-byte.ensures) (omega arith) (omega arith) ∙ sym c.loop-k.invariant.0
-
-pub overflow_mul-result : goal.overflow_mul-result
-overflow_mul-result c =
-    omega (arith, kept_small c.loop-k.k _ _ c.from-byte.result (omega (arith, c.loop-k.invariant.3.few)) c.loop-k.invariant.2 c.loop-k.invariant.1 (omega arith))
 
 pub overflow_add-result : goal.overflow_add-result
 overflow_add-result c =
@@ -32,17 +24,6 @@ group : (c : Else-byte-lt-MORE) → c.from-byte.result - 128 < 128
 group c =
     let all = c.loop-k.invariant.3 in
     omega (arith, (all.each _ _ (omega arith) c.from-byte.ensures).is, c.type_inv.bytes (c.args.at + c.loop-k.k))
-
-pub overflow_mul-value : goal.overflow_mul-value
-overflow_mul-value c =
-    omega (arith, kept_small c.loop-k.k _ _ (c.from-byte.result - 128) (omega (arith, c.loop-k.invariant.3.few)) c.loop-k.invariant.2 c.loop-k.invariant.1 (group c))
-
-pub overflow_add-value : goal.overflow_add-value
-overflow_add-value c =
-    omega (arith, kept_small c.loop-k.k _ _ (c.from-byte.result - 128) (omega (arith, c.loop-k.invariant.3.few)) c.loop-k.invariant.2 c.loop-k.invariant.1 (group c))
-
-pub overflow_mul-unit : goal.overflow_mul-unit
-overflow_mul-unit c = omega (arith, light c.loop-k.k (omega (arith, c.loop-k.invariant.3.few)))
 
 pub loop-k-preserved : goal.loop-k-preserved
 loop-k-preserved c =
