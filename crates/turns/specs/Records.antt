@@ -39,17 +39,21 @@ other_sign z h =
 
 -- ---- the eight turns of a record
 -- the discharges that a turn makes of a record's
-abbrev discharges : Turn → Leaf → ℤ × ℤ
+abbrev pub discharges : Turn → Leaf → ℤ × ℤ
 discharges t l = picked t l.east l.north (neg_ℤ l.east) (neg_ℤ l.north)
 
-discharges_turn : (t : Turn) (l : Leaf) → record { water = l.water; east = (discharges t l).0; north = (discharges t l).1 } ≡ turned_leaf (number_of t) l
+pub discharges_turn : (t : Turn) (l : Leaf) → record { water = l.water; east = (discharges t l).0; north = (discharges t l).1 } ≡ turned_leaf (number_of t) l
 discharges_turn t l = grind (arith, neg_ℤ-neg_ℤ)
 
-east_kept : (t : Turn) (l : Leaf) → Reversible l → unsigned_abs (discharges t l).0 < 2 ^ 63
+pub east_kept : (t : Turn) (l : Leaf) → Reversible l → unsigned_abs (discharges t l).0 < 2 ^ 63
 east_kept t l h = grind (arith, abs_negate l.east, abs_negate l.north)
 
-north_kept : (t : Turn) (l : Leaf) → Reversible l → unsigned_abs (discharges t l).1 < 2 ^ 63
+pub north_kept : (t : Turn) (l : Leaf) → Reversible l → unsigned_abs (discharges t l).1 < 2 ^ 63
 north_kept t l h = grind (arith, abs_negate l.east, abs_negate l.north)
+
+-- a record that can change its signs still can after a turn
+pub reversible_turned : (t : Turn) (l : Leaf) → Reversible l → Reversible (turned_leaf (number_of t) l)
+reversible_turned t l h = subst Reversible (discharges_turn t l) (record { east = east_kept t l h; north = north_kept t l h })
 
 -- the record with two of its four discharges in 64 bits
 pub record_turned : (l : Leaf) → Reversible l → (t : Turn) (r : ℤ × ℤ)
