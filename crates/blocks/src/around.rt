@@ -46,6 +46,7 @@ pub fn edge(head: Head, levels: &[u8], block: Block, dir: Dir) -> Edge
     }
 }
 
+// The tables as in `edge`; `Lies` and `Shallow` hang on an address and a basin's levels, and neither alone can carry them.
 /// What the leaf at an address borders on in each direction.
 pub fn sides(head: Head, levels: &[u8], block: Block) -> Sides<Edge>
     requires lies { Lies head.levels block }

@@ -8,6 +8,7 @@ use basin::dir::Dir;
 use basin::head::Head;
 use basin::size::{place, side};
 
+// `Lies` is asked for here and below: it hangs on an address and a basin's levels, and neither alone can carry it.
 /// The entry of a block's south-west square.
 pub fn corner(head: Head, block: Block) -> usize
     requires { Lies head.levels block }

@@ -16,6 +16,7 @@ use blocks::block::Edge;
 use faces::pace::Pace;
 use flow::rule::FlowRule;
 
+// What is asked of the edge hangs on head, tables and edge, and none alone can carry it.
 /// What one side of a leaf does to it.
 fn border<R: FlowRule>(
     rule: &R,

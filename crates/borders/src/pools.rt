@@ -49,6 +49,7 @@ pub fn pool(head: Head, beds: &[u16], leaves: &[Leaf], block: Block) -> Pool
     }
 }
 
+// `Kept` is asked for and no ghost field: definitions in specs/ build pools too, and would have to carry proofs.
 /// The leaf's side of a face with this sill, across which one goes in that direction or against it.
 pub fn side_at(pool: Pool, sill: u64, dir: Dir) -> Side
     requires { (Kept pool) × (pool.bed ≤ sill) }

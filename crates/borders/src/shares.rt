@@ -23,6 +23,7 @@ fn outward(amount: i64) -> u64
     if amount > 0 { amount as u64 } else { 0 }
 }
 
+// The length is asked to be at most 64 and no type of its own: it is the smaller of two sides, used once.
 /// What a face of this length does to its near side, from which the far one lies in this direction.
 fn share_of<R: FlowRule>(
     rule: &R,
@@ -59,6 +60,7 @@ fn share_of<R: FlowRule>(
     }
 }
 
+// `Kept` is asked for and no ghost field: definitions in specs/ build pools too, and would have to carry proofs.
 /// What the face between two leaves does to the near one.
 pub fn between<R: FlowRule>(rule: &R, near: Pool, far: Pool, dir: Dir, pace: Pace) -> Share
     requires { (Kept near) × (Kept far) }
@@ -79,6 +81,7 @@ pub fn between<R: FlowRule>(rule: &R, near: Pool, far: Pool, dir: Dir, pace: Pac
     )
 }
 
+// `Kept` as in `between`.
 /// What the basin's wall does to a leaf: behind it stands the leaf's own side, mirrored.
 pub fn at_wall<R: FlowRule>(rule: &R, near: Pool, dir: Dir, pace: Pace) -> Share
     requires { Kept near }

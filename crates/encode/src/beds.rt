@@ -15,6 +15,7 @@ pub fn beds_length(beds: &[u16]) -> usize
     beds.iter().map(|bed| number_length(u64::from(*bed))).sum()
 }
 
+// `Room` is asked for: it hangs on the writer and on what is written, and neither alone can carry it.
 /// Writes the beds.
 pub fn put_beds(writer: &mut Writer<'_>, beds: &[u16])
     requires { Room (beds_bytes beds.now) writer.old }

@@ -42,6 +42,7 @@ fn put_file(out: &mut [u8], survey: &Survey<'_>)
     put_beds(&mut writer, survey.beds);
 }
 
+// Tables come one by one, since it is here that they become a survey.
 /// Writes a basin's file into the first bytes of `out`, and answers how many. Where it refuses, `out` is as it was.
 pub fn write(
     head: Head,

@@ -6,8 +6,8 @@ ghost use Rattle.encode.specs.Writers.{Room, Puts};
 use crate::record::{leaf_length, put_leaf};
 use crate::tree::Node;
 use crate::writer::Writer;
-use nodes::mark::Mark;
 use basin::quarters::Quarters;
+use nodes::mark::Mark;
 
 /// The bytes that a node takes.
 pub fn node_length(node: Node<'_>) -> usize
@@ -22,6 +22,7 @@ pub fn node_length(node: Node<'_>) -> usize
     }
 }
 
+// `Room` is asked for: it hangs on the writer and on what is written, and neither alone can carry it.
 /// Writes a node.
 pub fn put_node(writer: &mut Writer<'_>, node: Node<'_>)
     requires { Room (bytes_of node) writer.old }

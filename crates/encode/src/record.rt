@@ -8,6 +8,7 @@ use crate::number::{number_length, to_coded};
 use crate::writer::Writer;
 use basin::leaf::Leaf;
 
+// `InRange` is asked for and no part of `Leaf`: a record may hold any numbers until it is validated.
 /// The bytes that a record takes.
 pub fn leaf_length(leaf: Leaf) -> usize
     requires { InRange 4096 leaf }
@@ -19,6 +20,7 @@ pub fn leaf_length(leaf: Leaf) -> usize
         + number_length(to_coded(leaf.north))
 }
 
+// `Room` is asked for: it hangs on the writer and on what is written, and neither alone can carry it.
 /// Writes a record.
 pub fn put_leaf(writer: &mut Writer<'_>, leaf: Leaf)
     requires small { InRange 4096 leaf }

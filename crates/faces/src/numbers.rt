@@ -51,6 +51,7 @@ fn excess(push: i64, side: Side) -> i64
     push - side.pressure() as i64
 }
 
+// The length as in `cross`.
 /// What passes across `length` squares in a step, of an amount for each millimetre and second.
 fn scaled(amount: i64, length: u32, pace: Pace) -> i64
     requires amount { unsigned_abs amount ≤ 30000000000000 }

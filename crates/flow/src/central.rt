@@ -127,6 +127,7 @@ fn weighed(a: i64, b: i64, f1: i64, f2: i64) -> i64
     a * f1 - b * f2
 }
 
+// `a` and `b` as in `weighed`.
 /// What evens out the difference of what both sides hold.
 fn spread(a: i64, b: i64, u1: i64, u2: i64) -> i64
     requires a { unsigned_abs a ≤ 27200 }
@@ -139,6 +140,7 @@ fn spread(a: i64, b: i64, u1: i64, u2: i64) -> i64
     a * b * (u2 - u1)
 }
 
+// `a` and `b` as in `weighed`.
 /// The mean of what both sides bring, `f1` and `f2`, less what evens out what they hold, `u1` and `u2`; 0 where no wave runs.
 fn blend(a: i64, b: i64, f1: i64, f2: i64, u1: i64, u2: i64) -> i64
     requires a { unsigned_abs a ≤ 27200 }

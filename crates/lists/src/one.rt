@@ -15,6 +15,7 @@ use refine::merge::merge;
 use refine::split::split;
 use step::step::step;
 
+// Tables come one by one: the types say which of them the call may write, and the caller keeps them in memory of his own.
 /// Performs a call of a list.
 pub fn perform<R: FlowRule + Copy>(
     head: &mut Head,

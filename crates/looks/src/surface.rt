@@ -38,6 +38,7 @@ pub fn block_beds(beds: &[u16], n: usize, x: usize, y: usize, count: usize) -> u
     sum
 }
 
+// The table's length is asked for: it hangs on beds and plot, and neither alone can carry it.
 /// The sum of the beds of a plot.
 pub fn plot_beds(beds: &[u16], plot: Plot) -> u64
     requires { length beds.now ≡ plot.n * plot.n }
@@ -56,6 +57,7 @@ pub fn surface_of(beds: &[u16], plot: Plot, water: u32) -> u64
     (water as u64 + plot_beds(beds, plot)) / plot.area() as u64
 }
 
+// `On` is asked for: it hangs on survey and square, and neither alone can carry it.
 /// The surface number W at a square of a valid basin.
 pub fn surface_at(survey: &Survey<'_>, square: Square) -> u64
     requires { On (surveyed survey.now) square }

@@ -20,6 +20,7 @@ fn read_discharge(reader: &mut Reader<'_>, water: u32) -> Result<i64, TreeFault>
     }
 }
 
+// The area stays a number with its bound asked for: a type for it would be made and taken apart at each of three calls.
 /// The record that comes next, of a leaf of `area` squares.
 pub fn read_leaf(reader: &mut Reader<'_>, area: usize) -> Result<Leaf, TreeFault>
     requires { area ≤ 4096 }

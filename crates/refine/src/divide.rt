@@ -20,6 +20,7 @@ fn children(area: usize, shares: Quarters<u64>, leaf: Leaf) -> Quarters<Leaf>
     shares.map(|water| child(area, water as u32, leaf))
 }
 
+// The table's length hangs on beds and plot; loose water keeps its bound beside it, as a head of other loose water is made from the answer.
 /// A wet leaf divided: each child gets a fourth of water and beds together, less its own beds.
 fn divide_wet(plot: Plot, beds: &[u16], leaf: Leaf, loose: u32) -> Result<Division, Refusal>
     requires full { length beds.now ≡ plot.n * plot.n }
@@ -48,6 +49,7 @@ fn divide_wet(plot: Plot, beds: &[u16], leaf: Leaf, loose: u32) -> Result<Divisi
     })
 }
 
+// The table's length and loose water as in `divide_wet`.
 /// A leaf divided: a dry one has dry children.
 pub fn divide(plot: Plot, beds: &[u16], leaf: Leaf, loose: u32) -> Result<Division, Refusal>
     requires full { length beds.now ≡ plot.n * plot.n }

@@ -10,6 +10,7 @@ use basin::window::Window;
 use looks::surface::{plot_beds, surface_at};
 use tables::survey::Survey;
 
+// `On` and the level's bound are asked for in this file: each hangs on the survey and a square or level, and neither alone can carry it.
 /// The bed number that a leaf of `level` has at a square of a valid basin.
 fn bed_number(survey: &Survey<'_>, level: u8, square: Square) -> u64
     requires on { On (surveyed survey.now) square }

@@ -9,6 +9,7 @@ use basin::plot::Plot;
 use basin::quarters::Quarters;
 use looks::surface::plot_beds;
 
+// The table's length is asked for: it hangs on beds and plot, and neither alone can carry it.
 /// The water of each child: what its quarter of water and beds has above its own beds.
 pub fn shares(plot: Plot, beds: &[u16], quarter: u64) -> Quarters<u64>
     requires { length beds.now ≡ plot.n * plot.n }
@@ -25,6 +26,7 @@ pub fn leaves_bare(shares: Quarters<u64>) -> bool
     shares.any(|water| water < 1)
 }
 
+// The area stays a number with its bound asked for: a type for it would be made and taken apart at each of three calls.
 /// Whether some child, of `area` squares, may not hold its water.
 pub fn overfills(shares: Quarters<u64>, area: usize) -> bool
     requires { area ≤ 4096 }

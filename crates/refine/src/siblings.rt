@@ -9,6 +9,7 @@ use basin::size::place;
 use basin::square::Square;
 use calls::spot::Spot;
 
+// The side stays a number with its bounds asked for: a plot would say where the block lies, which is not asked here.
 /// The place beside `x` in the other half of a block of twice the side.
 fn twin(side: usize, x: usize) -> usize
     requires some { 1 ≤ side }
@@ -77,6 +78,7 @@ pub fn mixed(family: Siblings) -> bool
         || unlike(family.own, family.across)
 }
 
+// `Slow` as in `both`.
 /// The siblings' records added up.
 pub fn joined(family: Siblings) -> Leaf
     requires few { (JoinedOf family).water ≤ 122880000 }

@@ -23,6 +23,7 @@ fn entry_of(head: Head, levels: &[u8], work: &[Leaf], i: usize) -> Leaf
     work[corner(head, home(head, levels, i))]
 }
 
+// Levels and work table as in `entry_of`.
 /// Whether some leaf's entry holds more than the leaf may.
 pub fn overfull(head: Head, levels: &[u8], work: &[Leaf]) -> bool
     requires { Shaped head.levels levels.now work.now }
@@ -37,6 +38,7 @@ pub fn overfull(head: Head, levels: &[u8], work: &[Leaf]) -> bool
     false
 }
 
+// Levels and work table as in `entry_of`.
 /// Gives each square the record that its leaf's entry comes to.
 pub fn spread(head: Head, levels: &[u8], work: &[Leaf], leaves: &mut [Leaf])
     requires shaped { Shaped head.levels levels.now work.now }

@@ -27,6 +27,7 @@ fn fastest(side: usize, leaf: Leaf) -> u64
     speed + root(9810 * depth) as u64
 }
 
+// The range as in `fastest`.
 /// Whether a leaf is crossed by more than a quarter in the time.
 fn is_fast(width: u16, side: usize, leaf: Leaf, time: u32) -> bool
     requires some { 1 ≤ side }

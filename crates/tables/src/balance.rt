@@ -24,6 +24,7 @@ fn level_at(levels: &[u8], n: usize, x: usize, y: usize) -> u8
     levels[y * n + x]
 }
 
+// (x, y) and n as in `level_at`.
 /// Whether a square is at most one level apart from its neighbours east, north, north-east and north-west.
 fn fits_beside(levels: &[u8], n: usize, x: usize, y: usize) -> bool
     requires full { length levels.now ≡ n * n }
@@ -47,6 +48,7 @@ fn fits_beside(levels: &[u8], n: usize, x: usize, y: usize) -> bool
     true
 }
 
+// (x, y) and n as in `level_at`.
 /// Whether squares that share an edge or a corner are at most one level apart.
 pub fn is_balanced(levels: &[u8], n: usize) -> bool
     requires full { length levels.now ≡ n * n }

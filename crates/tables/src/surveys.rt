@@ -13,6 +13,7 @@ use basin::size::side;
 use basin::square::Square;
 
 impl<'a> Survey<'a> {
+    // Tables come one by one, since it is here that they become a survey.
     /// The survey of a head and its tables, or which of the first two refusals says that they are no valid basin.
     pub fn new(
         head: Head,
@@ -31,6 +32,7 @@ impl<'a> Survey<'a> {
         })
     }
 
+    // `On` is asked for here and below: it hangs on survey and square, and neither alone can carry it.
     /// The level of the leaf at a square.
     pub fn level(&self, square: Square) -> u8
         requires { On (surveyed self.now) square }

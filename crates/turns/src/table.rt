@@ -9,6 +9,7 @@ use crate::entry::Turns;
 use crate::place::moved;
 use basin::square::Square;
 
+// Both lengths are asked for: they hang on n and the tables, of which one is written.
 /// Writes the table `from`, turned, to the table `to`; both have `n` by `n` entries.
 pub fn turn_table<T: Turns>(n: usize, from: &[T], to: &mut [T], turn: Turn)
     requires least { 1 ≤ n }

@@ -32,6 +32,7 @@ fn outflow(water: u32, all: u64, border: Border) -> Outflow
     }
 }
 
+// `Lies` is asked for: it hangs on an address and a basin's levels, and neither alone can carry it.
 /// What leaves the leaf at an address, which borders on these sides.
 pub fn departure_of<R: FlowRule>(
     motion: &Motion<'_, R>,

@@ -22,6 +22,7 @@ fn add_water(head: Head, work: &mut [Leaf], block: Block, amount: u32)
     work[i].water += amount;
 }
 
+// The work table as in `add_water`.
 /// Adds what leaves across a side to the entries of the leaves there.
 pub fn send(head: Head, work: &mut [Leaf], edge: Edge, outflow: Outflow)
     requires full { length work.old ≡ 2 ^ head.levels * 2 ^ head.levels }

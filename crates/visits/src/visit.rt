@@ -19,6 +19,7 @@ use blocks::block::Block;
 use blocks::places::corner;
 use flow::rule::FlowRule;
 
+// `Lies` and the work table's length are asked for here and below: they hang on a basin's levels and on address or table.
 /// Takes from a leaf's entry what leaves the leaf, and puts its new discharges there.
 fn take(head: Head, work: &mut [Leaf], block: Block, departure: Departure)
     requires lies { Lies head.levels block }
