@@ -48,7 +48,7 @@ fn fits_beside(levels: &[u8], n: usize, x: usize, y: usize) -> bool
     true
 }
 
-// (x, y) and n as in `level_at`.
+// The length as in `level_at`: a table of any size is judged.
 /// Whether squares that share an edge or a corner are at most one level apart.
 pub fn is_balanced(levels: &[u8], n: usize) -> bool
     requires full { length levels.now ≡ n * n }
