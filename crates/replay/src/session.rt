@@ -207,6 +207,7 @@ impl Session {
         Ok(())
     }
 
+    // The number as it was read: the library answers any, and refuses what is no turn's.
     /// Turns the basin: the turned one takes its place.
     fn turn(&mut self, heap: Global, number: u32) -> Result<Answer, Stop> {
         let Basin { head, tables } = self.basin()?;

@@ -62,6 +62,7 @@ mod tests {
         }; 4]
     }
 
+    // A number, as `turn` takes it.
     // Whether a turn takes the beds 1 to 4 and the discharges 10 eastward and 20 northward to these.
     fn turns_to(number: u32, beds: [u16; 4], east: i64, north: i64) -> bool {
         let mut second_levels = [9; 4];
