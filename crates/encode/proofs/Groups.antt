@@ -1,5 +1,5 @@
 -- A number's groups, counted and written one after another.
-use Rattle.std.proofs.Common.{◌≡◌, ℕ, zero, suc, ◌+◌, ◌-◌, ◌/◌, ◌%◌, ◌^◌, ◌<◌, ◌≤◌, List, [], ◌∷◌, length, set, sym, refl, ⊎_elim, pow-suc, add-one, arith}
+use Rattle.std.proofs.Common.{◌≡◌, ℕ, zero, suc, ◌+◌, ◌-◌, ◌/◌, ◌%◌, ◌^◌, ◌<◌, ◌≤◌, List, [], ◌∷◌, length, set, sym, ⊎_elim, pow-suc, add-one, arith}
 use lib.Seq.{sets}
 use Rattle.std.proofs.lemmas.Bool.{cases_lt}
 use Rattle.numbers.specs.Numbers.{groups, number}
@@ -33,11 +33,6 @@ pub record Putting (at value here rest : ℕ) (before out : List ℕ) : Type 0 w
   pub left : Left at value here rest
   pub bytes : sets before at (number value) ≡ sets out here (groups (6 - (here - at)) rest)
 
-pub left_all : (at value : ℕ) → value < 2 ^ 42 → Left at value at value
-left_all at value h =
-    let z : at - at ≡ 0 = omega arith in
-    record { begun = omega arith; few = omega arith; small = rw z h; ends = rw z refl }
-
 pub left_fewer : (at value here rest : ℕ) → 128 ≤ rest → Left at value here rest → Left at value (here + 1) (rest / 128)
 left_fewer at value here rest l p =
     let j = fewer (6 - (here - at)) rest p.small l in
@@ -59,9 +54,6 @@ left_some at value here rest p =
     let n = rw (more (6 - (here - at)) rest (omega (arith, p.few)) l) at p.ends in
     omega (arith, n))
     (cases_lt rest 128)
-
-pub putting_all : (at value : ℕ) (out : List ℕ) → value < 2 ^ 42 → Putting at value at value out out
-putting_all at value out h = let z : at - at ≡ 0 = omega arith in record { left = left_all at value h; bytes = rw z refl }
 
 pub putting_fewer : (at value here rest : ℕ) (before out : List ℕ) → 128 ≤ rest → Putting at value here rest before out
     → Putting at value (here + 1) (rest / 128) before (set out here (rest % 128 + 128))

@@ -17,9 +17,6 @@ north_is c =
     let f : SFits w64 c.args.leaf.north = search rules in
     c.to_coded-2.ensures ∙ ap coded (to_z-of_z w64 c.args.leaf.north f)
 
-pub number-requires : goal.number-requires
-number-requires c = record { small = (small c.args.leaf c.requires.small).water; room = first _ c.requires.room }
-
 pub number-requires-2 : goal.number-requires-2
 number-requires-2 c =
     rw (east_is c) (record { small = (small c.args.leaf c.requires.small).east; room = first _ (second c.requires.room c.number.ensures) })
