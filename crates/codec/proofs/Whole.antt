@@ -1,5 +1,5 @@
 -- The ways through a file, and what each leaves.
-use Rattle.std.proofs.Common.{◌≡◌, ℕ, ◌*◌, Bool, true, false, cond, not, List, length, IfOk, Ok, Err, Result, sym, refl, ap, ◌∙◌, arith}
+use Rattle.std.proofs.Common.{◌≡◌, ℕ, ◌*◌, ◌^◌, Bool, true, false, cond, not, List, length, IfOk, Ok, Err, Result, sym, refl, ap, ◌∙◌, arith}
 use Rattle.std.proofs.lemmas.Bool.{eq-eqb, ne_eqb}
 use Rattle.basin.specs.declared.leaf.Leaf.{Leaf}
 use Rattle.basin.specs.Basins.{Heading, Tables, tables, Basin, basin, side, view}
@@ -57,7 +57,7 @@ drawn_table pick d L bs at p t u w small eu e drawn =
 pub body_charts : (h : Heading) (bs : List ℕ) (at p q : ℕ) (levels levels' beds beds' : List ℕ) (leaves leaves' : List Leaf)
     → Bytes bs
     → length levels ≡ side h * side h → length beds ≡ side h * side h → length leaves ≡ side h * side h
-    → Left h.L h.L 0 bs at (Ok tt) p levels levels' leaves leaves'
+    → Left h.L (2 ^ h.L) h.L 0 bs at (Ok tt) p levels levels' leaves leaves'
     → Ok q ≡ place (beds_at (length beds) bs p) → IfOk (beds_at (length beds) bs p) (λ b. beds' ≡ b.0)
     → q ≡ length bs
     → (Ok tt ≡ whether (body_at h.L bs at)) × Charts h (body_at h.L bs at) (tables levels' beds' leaves')

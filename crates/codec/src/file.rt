@@ -11,7 +11,7 @@ use basin::head::Head;
 use basin::leaf::Leaf;
 use nodes::fault::TreeFault;
 use nodes::node::read_node;
-use nodes::spot::Spot;
+use nodes::target::Target;
 use numbers::reader::Reader;
 use tables::balance::is_balanced;
 
@@ -33,7 +33,7 @@ fn read_body(
     ensures whether { result ≡ whether (body_at head.levels reader.old.bytes.now reader.old.at) }
     ensures tables { Charts (heading head) (body_at head.levels reader.old.bytes.now reader.old.at) (tables levels.new beds.new leaves.new) }
 {
-    read_node(reader, Spot::whole(head), levels, leaves)?;
+    read_node(reader, Target::whole(head), levels, leaves)?;
     read_beds(reader, beds)?;
     if reader.at == reader.bytes.len() {
         Ok(())

@@ -4,3 +4,4 @@ pub mod Paint
 pub mod Written
 pub mod Marks
 pub mod Spots
+pub mod Targets

@@ -7,3 +7,4 @@ pub mod node;
 pub mod paint;
 pub mod record;
 pub mod spot;
+pub mod target;

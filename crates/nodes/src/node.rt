@@ -1,40 +1,40 @@
 // The nodes of a tree, one after another.
-ghost use Rattle.std.specs.Prelude.{◌*◌, ◌^◌, ◌≤◌, length};
+ghost use Rattle.std.specs.Prelude.{length};
 ghost use Rattle.numbers.specs.Readers.{Passes};
 ghost use Rattle.nodes.specs.Trees.{node_at};
 ghost use Rattle.nodes.specs.Paint.{Drawn, level_of, record_of};
-ghost use Rattle.nodes.specs.Spots.{corner_of};
+ghost use Rattle.nodes.specs.Targets.{LiesIn};
 
 use crate::fault::TreeFault;
 use crate::mark::Mark;
 use crate::record::read_leaf;
-use crate::spot::Spot;
+use crate::target::Target;
 use basin::leaf::Leaf;
 use numbers::reader::Reader;
 
-/// Reads the node that comes next into its spot of both tables.
+/// Reads the node that comes next into its target in both tables.
 pub fn read_node(
     reader: &mut Reader<'_>,
-    spot: Spot,
+    target: Target,
     levels: &mut [u8],
     leaves: &mut [Leaf],
 ) -> Result<(), TreeFault>
-    requires levels { 2 ^ spot.levels * 2 ^ spot.levels ≤ length levels.old }
-    requires leaves { 2 ^ spot.levels * 2 ^ spot.levels ≤ length leaves.old }
-    ensures next { Passes (node_at spot.height) reader.old reader.new result }
-    ensures levels { Drawn (level_of spot.levels) (2 ^ spot.levels) spot.height (corner_of spot) (node_at spot.height reader.old.bytes.now reader.old.at) levels.old levels.new }
-    ensures leaves { Drawn record_of (2 ^ spot.levels) spot.height (corner_of spot) (node_at spot.height reader.old.bytes.now reader.old.at) leaves.old leaves.new }
+    requires levels { LiesIn target (length levels.old) }
+    requires leaves { LiesIn target (length leaves.old) }
+    ensures next { Passes (node_at target.height) reader.old reader.new result }
+    ensures levels { Drawn (level_of target.levels) target.stride target.height target.corner (node_at target.height reader.old.bytes.now reader.old.at) levels.old levels.new }
+    ensures leaves { Drawn record_of target.stride target.height target.corner (node_at target.height reader.old.bytes.now reader.old.at) leaves.old leaves.new }
 {
     let at = reader.at;
     match Mark::try_from(reader.number()?) {
         Ok(Mark::Leaf) => {
-            let leaf = read_leaf(reader, spot.side() * spot.side())?;
-            spot.fill(levels, spot.levels - spot.height);
-            spot.fill(leaves, leaf);
+            let leaf = read_leaf(reader, target.side() * target.side())?;
+            target.fill(levels, target.levels - target.height);
+            target.fill(leaves, leaf);
             Ok(())
         }
         Ok(Mark::Cut) => {
-            let Some(quarters) = spot.quarters() else {
+            let Some(quarters) = target.quarters() else {
                 return Err(TreeFault::Range(at));
             };
             read_node(reader, quarters.sw, levels, leaves)?;

@@ -1,7 +1,6 @@
 // Where nodes lie in the tables.
-ghost use Rattle.std.specs.Prelude.{◌≡◌, ◌+◌, ◌-◌, ◌*◌, ◌^◌, ◌<◌, ◌≤◌, length, MatchOption};
+ghost use Rattle.std.specs.Prelude.{◌≡◌, ◌+◌, ◌-◌, ◌*◌, ◌^◌, ◌<◌, ◌≤◌, MatchOption};
 
-use crate::paint::fill_block;
 use basin::head::Head;
 use basin::quarters::Quarters;
 use basin::size::{place, side};
@@ -24,7 +23,6 @@ pub struct Spot {
 
 impl Spot {
     ghost use Rattle.nodes.specs.Spots.{corner_of, Quarter, Quartered, WholeSpot};
-    ghost use Rattle.basin.specs.Fills.{square};
 
     /// The node of a whole basin.
     pub fn whole(head: Head) -> Spot
@@ -52,14 +50,6 @@ impl Spot {
         ensures within { result < 2 ^ self.levels * 2 ^ self.levels }
     {
         place(side(self.levels), self.x, self.y)
-    }
-
-    /// Puts a value on the block's squares.
-    pub fn fill<T: Copy>(self, table: &mut [T], value: T)
-        requires { 2 ^ self.levels * 2 ^ self.levels ≤ length table.old }
-        ensures { table.new ≡ square (2 ^ self.height) (2 ^ self.levels) (2 ^ self.height) (corner_of self) value table.old }
-    {
-        fill_block(table, self.corner(), self.side(), side(self.levels), value);
     }
 
     /// Where the quarter lies whose south-west square is so many squares east and north of the block's.
