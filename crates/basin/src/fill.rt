@@ -7,7 +7,7 @@ pub fn fill_block<T: Copy>(table: &mut [T], corner: usize, side: usize, stride: 
     requires { corner + side * stride + side ≤ length table.old + stride }
     ensures { table.new ≡ square side stride side corner value table.old }
 {
-    // Rows by number: `chunks_mut` would hand them out too, but not say where in the table each begins.
+    // Rows by number: `chunks_mut` would not say where each begins; `fill` on a row speaks of clones, and the loop of the value itself.
     for j in 0..side {
         let start = corner + j * stride;
         for entry in &mut table[start..start + side] {

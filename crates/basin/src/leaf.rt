@@ -19,7 +19,7 @@ impl Leaf {
     };
 }
 
-// The area stays a number with its bound asked for: a type for it would be made and taken apart at each of three calls.
+// The area stays a number with its bound asked for: it is one number, used at once.
 /// Whether a leaf of `area` squares may hold `water`: at most 30,000 mm on each square.
 pub fn may_hold(area: usize, water: u64) -> bool
     requires { area ≤ 4096 }

@@ -11,7 +11,7 @@ pub fn side(height: u8) -> usize
     1 << height
 }
 
-// n, x and y one by one: `Square` answers its entry by this.
+// Three numbers and no `Square`: `Square::entry` goes by this, and other callers have the numbers but no `Square`.
 /// The entry of square (x, y) in a table of `n` by `n` entries.
 pub fn place(n: usize, x: usize, y: usize) -> usize
     requires small { n ≤ 64 }

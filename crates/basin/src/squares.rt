@@ -36,6 +36,7 @@ impl Square {
         ensures { NextOf dir self.x self.y self.n result }
     {
         let Square { x, y, n } = self;
+        // A match says each direction's case at once, and `?` ends the two that could go below 0.
         let (x, y) = match dir {
             Dir::East => (x + 1, y),
             Dir::North => (x, y + 1),

@@ -43,7 +43,7 @@ impl Window {
         requires { (x : ℕ) → self.west ≤ x → x < self.east → F.pre test.now x y }
         ensures { MatchBool result ((x : ℕ) → self.west ≤ x → x < self.east → F.post test.now x y true) ((x : ℕ) × ((self.west ≤ x) × ((x < self.east) × F.post test.now x y false))) }
     {
-        // The range is the window's: its numbers are what the test is asked.
+        // A loop, since the test is the caller's closure: a chain would wrap it in a second one.
         for x in self.west..self.east {
             if !test(x, y) {
                 return false;
@@ -57,7 +57,7 @@ impl Window {
         requires { (x y : ℕ) → Seen self x y → F.pre test x y }
         ensures { MatchBool result ((x y : ℕ) → Seen self x y → F.post test x y true) ((x : ℕ) × ((y : ℕ) × (Seen self x y × F.post test x y false))) }
     {
-        // As above: numbers of rows, not places in a table.
+        // A loop as in `row_passes`: a chain would wrap the test in a second closure.
         for y in self.south..self.north {
             if !self.row_passes(y, &test) {
                 return false;

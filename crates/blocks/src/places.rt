@@ -72,7 +72,7 @@ pub fn first(head: Head, block: Block, dir: Dir) -> Block
     ensures value { as_block result ≡ the_first dir (as_block block) }
     ensures lies { Lies head.levels result }
 {
-    // A match: four short arms, one a direction, which a table of closures would only spread out.
+    // A match says each direction's case at once; closures for them would be the same arms, further apart.
     match dir {
         Dir::East | Dir::North => Block {
             level: block.level + 1,
@@ -92,14 +92,14 @@ pub fn first(head: Head, block: Block, dir: Dir) -> Block
     }
 }
 
-// Not one function with `first`: each arm has other offsets, and each caller wants one of the two at a time.
+// Not one function with `first`: the arms give other offsets in each direction.
 /// The northern or eastern of those two quarters.
 pub fn second(head: Head, block: Block, dir: Dir) -> Block
     requires { (Lies head.levels block) × (block.level < head.levels) }
     ensures value { as_block result ≡ the_second dir (as_block block) }
     ensures lies { Lies head.levels result }
 {
-    // A match: four short arms, one a direction, which a table of closures would only spread out.
+    // A match says each direction's case at once; closures for them would be the same arms, further apart.
     match dir {
         Dir::East => Block {
             level: block.level + 1,

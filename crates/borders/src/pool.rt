@@ -1,7 +1,7 @@
 // A leaf's water as its faces see it.
 use basin::leaf::Leaf;
 
-// What these numbers keep on a valid basin (`Kept`) is no part of the type: `pool` reads tables of any content, and a type would ask more of it.
+// `Kept`, which holds on a valid basin, is no ghost field: definitions in specs/ build pools too, and would have to carry proofs.
 /// The numbers of a leaf that its faces go by.
 #[derive(Clone, Copy)]
 pub struct Pool {

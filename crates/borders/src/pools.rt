@@ -59,7 +59,7 @@ pub fn side_at(pool: Pool, sill: u64, dir: Dir) -> Side
         return Side { h: 0, u: 0, v: 0 };
     }
     let h = (pool.surface - sill) as u32;
-    // A match: four short arms, one a direction, which a table of closures would only spread out.
+    // A match says each direction's case at once; closures for them would be the same arms, further apart.
     match dir {
         Dir::East | Dir::West => wet_side(h, pool.eastward, pool.northward),
         Dir::North | Dir::South => wet_side(h, pool.northward, pool.eastward),

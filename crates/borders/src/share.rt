@@ -1,6 +1,6 @@
 // What a face does to one of its two leaves.
 
-// How large the numbers are stands in the contracts: `SmallShare` is of use to those alone who add shares up.
+// Bounds on these numbers (`SmallShare`) stand in the contracts of `between` and `at_wall`: only `border`, which adds shares up, needs them.
 /// What a face does in a step to the leaf that it is seen from.
 #[derive(Clone, Copy)]
 pub struct Share {

@@ -23,7 +23,7 @@ fn outward(amount: i64) -> u64
     if amount > 0 { amount as u64 } else { 0 }
 }
 
-// The length is asked to be at most 64 and no type of its own: it is the smaller of two sides, used once.
+// The length is asked to be at most 64 and no type of its own: it is one number, a side of a leaf, which `cross` takes as it is.
 /// What a face of this length does to its near side, from which the far one lies in this direction.
 fn share_of<R: FlowRule>(
     rule: &R,
@@ -39,7 +39,7 @@ fn share_of<R: FlowRule>(
     ensures along { result.along ≡ along_by (R.meaning rule.now) pace.time pace.width dir (face_of (state_of near) (state_of far) length) }
     ensures small { SmallShare result }
 {
-    // A match: four short arms, one a direction, which a table of closures would only spread out.
+    // A match says each direction's case at once; closures for them would be the same arms, further apart.
     match dir {
         Dir::East | Dir::North => {
             let ahead = cross(rule, near, far, length, pace);

@@ -60,6 +60,7 @@ pub fn locate(
     Spot::at(&survey, x, y)
 }
 
+// `1 ≤ spot.plot.side` is asked for: a `Plot` may be empty, and the surface number divides by its area.
 /// Gives the leaf at a spot this much water, clips its discharges to it, and answers its new surface number.
 pub fn refill(spot: Spot, beds: &[u16], leaves: &mut [Leaf], water: u32) -> u64
     requires beds { length beds.now ≡ spot.plot.n * spot.plot.n }

@@ -11,7 +11,7 @@ use flow::flux::Flux;
 use flow::rule::FlowRule;
 use flow::side::Side;
 
-// A length is asked to be at most 64 and no type of its own: it is the side of a leaf, read and used once.
+// A length is asked to be at most 64 and no type of its own: it is one number, a side of a leaf, and `scaled` would take the type apart again.
 /// What a face of `length` squares between two sides does in a step, by a rule.
 pub fn cross<R: FlowRule>(rule: &R, one: Side, two: Side, length: u32, pace: Pace) -> Crossing
     requires { length ≤ 64 }

@@ -12,7 +12,7 @@ use crate::rule::FlowRule;
 use crate::rules::Rules;
 use crate::side::Side;
 
-// A match and no `dyn FlowRule`: the two rules are all that a program can name, and a value of the enum is copied, compared and printed.
+// A match and no `dyn FlowRule`: the two rules are all that a program can name, and an enum of them is copied like a number.
 impl FlowRule for Rules {
     const FLOW_CAP: u64 = 1_200_000_000;
 

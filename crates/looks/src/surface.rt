@@ -20,6 +20,7 @@ fn row_beds(row: &[u16]) -> u64
     row.iter().map(|bed| *bed as u64).sum()
 }
 
+// A plot's numbers one by one: this is public and answers for a block of any table, also where no `Plot` exists (n over 64).
 /// The sum of the beds of a block of `count` by `count` squares, of which (x, y) is the south-west one, in a basin of `n` by `n`.
 pub fn block_beds(beds: &[u16], n: usize, x: usize, y: usize, count: usize) -> u64
     requires few { count ≤ 64 }
@@ -48,6 +49,7 @@ pub fn plot_beds(beds: &[u16], plot: Plot) -> u64
     block_beds(beds, plot.n, plot.west, plot.south, plot.side)
 }
 
+// `1 ≤ plot.side` is asked for: a `Plot` may be empty, and this divides by its area.
 /// The surface number of a leaf on a plot that holds `water`: water and beds together, shared out over the leaf's area.
 pub fn surface_of(beds: &[u16], plot: Plot, water: u32) -> u64
     requires full { length beds.now ≡ plot.n * plot.n }

@@ -8,7 +8,7 @@ use basin::leaf::Leaf;
 use basin::plot::Plot;
 use looks::surface::surface_of;
 
-// The tables' lengths are asked for: they hang on tables and plot, and neither alone can carry them.
+// The tables' lengths hang on tables and plot, and neither alone can carry them; `1 ≤ plot.side` is asked for as a `Plot` may be empty.
 /// Puts one leaf of `level` with the summed record in the place of the leaves on a plot, and answers its surface number.
 pub fn join(
     levels: &mut [u8],

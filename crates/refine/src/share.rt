@@ -26,7 +26,7 @@ pub fn leaves_bare(shares: Quarters<u64>) -> bool
     shares.any(|water| water < 1)
 }
 
-// The area stays a number with its bound asked for: a type for it would be made and taken apart at each of three calls.
+// The area stays a number with its bound asked for: it is one number, handed on to `may_hold`.
 /// Whether some child, of `area` squares, may not hold its water.
 pub fn overfills(shares: Quarters<u64>, area: usize) -> bool
     requires { area ≤ 4096 }

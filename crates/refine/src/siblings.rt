@@ -39,6 +39,7 @@ pub fn both(a: Leaf, b: Leaf) -> Leaf
     }
 }
 
+// `1 ≤ spot.plot.side` is asked for: a `Plot` may be empty, and `twin` divides by its side.
 /// The records of the leaf at a spot and of its siblings.
 pub fn siblings(leaves: &[Leaf], spot: Spot) -> Siblings
     requires some { 1 ≤ spot.plot.side }

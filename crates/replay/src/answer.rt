@@ -18,6 +18,7 @@ pub enum Answer {
 
 impl fmt::Display for Answer {
     fn fmt<W: fmt::Write>(&self, f: &mut fmt::Formatter<W>) -> fmt::Result {
+        // A match says at once how each answer is shown.
         match self {
             Answer::Done => write!(f, "ok"),
             Answer::Number(number) => write!(f, "ok {number}"),

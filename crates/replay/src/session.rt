@@ -156,6 +156,7 @@ impl Session {
     }
 
     fn save(&self, rt: &HostRuntime, path: &str) -> Result<Answer, Stop> {
+        // A match says each case at once: a file is saved, and any other answer is handed on.
         match self.write(rt.alloc())? {
             Answer::File(bytes) => {
                 fs::write(rt, path, &bytes)?;

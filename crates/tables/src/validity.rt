@@ -36,7 +36,7 @@ fn alike(levels: &[u8], leaves: &[Leaf], i: usize, j: usize) -> bool
     levels[i] == levels[j] && leaves[i] == leaves[j]
 }
 
-// (x, y) and n one by one, and no `Square`: `passes` hands out numbers, and a square would be made of them for this call alone.
+// (x, y) and n one by one, and no `Square`: `passes` hands out numbers and `alike` takes entries, so that a square would be taken apart at once.
 /// Whether a square has the level and the record of its block's south-west corner, and of its neighbours east and north in the block.
 fn fits_block(levels: &[u8], leaves: &[Leaf], n: usize, s: usize, x: usize, y: usize) -> bool
     requires full_levels { length levels.now ≡ n * n }

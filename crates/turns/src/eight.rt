@@ -48,6 +48,7 @@ impl Turn {
     pub(crate) fn undone(self) -> Turn
         ensures { number_of result ≡ undoing (number_of self) }
     {
+        // A match says each turn's case at once: only R1 and R3 are not undone by themselves.
         match self {
             Turn::R1 => Turn::R3,
             Turn::R3 => Turn::R1,
@@ -59,6 +60,7 @@ impl Turn {
     pub(crate) fn pick<T: Copy>(self, east: T, north: T, west: T, south: T) -> (T, T)
         ensures { result ≡ picked self east north west south }
     {
+        // A match says each turn's case at once, and a reader can check it line by line.
         match self {
             Turn::R0 => (east, north),
             Turn::R1 => (south, east),

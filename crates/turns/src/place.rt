@@ -22,6 +22,7 @@ pub(crate) fn moved(square: Square, turn: Turn) -> Square
     Square { x, y, n }
 }
 
+// A number and no `Turn`: any is answered, and a narrower type would ask more of callers.
 /// Where a turn takes place (x, y) of a basin; a place outside stays where it is.
 pub fn turned_place(head: Head, x: usize, y: usize, turn: u32) -> Result<(usize, usize), Refusal>
     ensures value { result ≡ turned_place_of (side (heading head)) x y turn }

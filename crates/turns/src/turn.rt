@@ -11,6 +11,7 @@ use basin::leaf::Leaf;
 use basin::refusal::Refusal;
 use tables::survey::Survey;
 
+// A number and no `Turn`: any is answered, and a narrower type would ask more of callers.
 /// Writes a basin, turned, to a second set of tables, and answers its head.
 // each table is a slice of its own, as the caller keeps them
 pub fn turn(

@@ -1,7 +1,7 @@
 // What leaves a leaf.
 use basin::sides::Sides;
 
-// 0 is what a face that is not there adds to a sum; an `Edge` of numbers would have to be shown of the shape of the `Edge` of blocks.
+// Two numbers and no enum of wall, one and two faces: a missing face adds 0 to a sum, and `send` has the `Edge` to tell how many there are.
 /// The water that leaves a leaf across the first and the second face of a side, 0 where there is none.
 #[derive(Clone, Copy)]
 pub struct Outflow {
