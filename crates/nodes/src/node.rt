@@ -12,6 +12,7 @@ use crate::target::Target;
 use basin::leaf::Leaf;
 use numbers::reader::Reader;
 
+// `LiesIn` is asked for: it hangs on target and table, and neither alone can carry it.
 /// Reads the node that comes next into its target in both tables.
 pub fn read_node(
     reader: &mut Reader<'_>,

@@ -47,6 +47,7 @@ impl Target {
         side(self.height)
     }
 
+    // `LiesIn` is asked for here too.
     /// Puts a value on the block's squares.
     pub fn fill<T: Copy>(self, table: &mut [T], value: T)
         requires { LiesIn self (length table.old) }
