@@ -7,7 +7,7 @@ use basin::quarters::Quarters;
 use basin::size::side;
 
 // Not one type with `Spot`: a reader's tables have rows of any length, and no square (x, y) is known in them.
-/// Where a node is read to: a block of a table whose rows have `stride` entries. No other target exists: a table may have the block.
+/// Where a node is read to: a block of a table whose rows have `stride` entries. No other target exists: the block fits a table that memory can hold.
 #[derive(Clone, Copy)]
 pub struct Target {
     /// The entry of the block's south-west square.
@@ -47,7 +47,7 @@ impl Target {
         side(self.height)
     }
 
-    // `LiesIn` is asked for here too.
+    // `LiesIn` is asked for, as in `read_node`.
     /// Puts a value on the block's squares.
     pub fn fill<T: Copy>(self, table: &mut [T], value: T)
         requires { LiesIn self (length table.old) }
