@@ -36,9 +36,11 @@ module _ {L : ℕ} {a : Address} (l : Lies L a) where
 
 -- the addresses made from one that lies in a basin of few levels
 module _ {L : ℕ} (a r : Address) (p : Dir) (few : L ≤ 6) (l : Lies L a) where
+  pub beyond_lies : at_edge p (as_block a) ≡ false → as_block r ≡ beyond p (as_block a) → Lies L r
+  beyond_lies h e = lies_at r (beyond p (as_block a)) few e (within_beyond L p (as_block a) (within l) h)
+
   pub next_to : at_edge p (as_block a) ≡ false → as_block r ≡ beyond p (as_block a) → r.level ≡ a.level → NextTo L p a r
-  next_to h e k =
-      record { inside = h; next_is = e; level_is = k; lies = lies_at r (beyond p (as_block a)) few e (within_beyond L p (as_block a) (within l) h) }
+  next_to h e k = record { inside = h; next_is = e; level_is = k; lies = beyond_lies h e }
 
   pub first_lies : a.level < L → as_block r ≡ first p (as_block a) → Lies L r
   first_lies h e = lies_at r (first p (as_block a)) few e (within_first L p (as_block a) (within l) h)

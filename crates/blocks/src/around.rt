@@ -3,7 +3,7 @@ ghost use Rattle.std.specs.Prelude.{◌≡◌, ◌*◌, ◌^◌, ◌<◌, ◌≤
 ghost use Rattle.blocks.specs.Places.{as_block, as_side, Lies, Shallow, beside_in, Around, home_at};
 
 use crate::block::{Block, Edge};
-use crate::places::{beyond, corner, first, parent, second};
+use crate::places::{corner, first, next, parent, second};
 use basin::dir::Dir;
 use basin::head::Head;
 use basin::sides::Sides;
@@ -33,7 +33,7 @@ pub fn edge(head: Head, levels: &[u8], block: Block, dir: Dir) -> Edge
     requires shallow { Shallow head.levels levels.now }
     ensures { as_side result ≡ beside_in head.levels levels.now dir (as_block block) }
 {
-    let Some(next) = beyond(head, block, dir) else {
+    let Some(next) = next(head, block, dir) else {
         return Edge::Wall;
     };
     let level = levels[corner(head, next)];

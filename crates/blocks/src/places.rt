@@ -1,6 +1,6 @@
 // Where blocks lie.
-ghost use Rattle.std.specs.Prelude.{◌≡◌, true, ◌*◌, ◌^◌, ◌<◌, ◌≤◌, MatchOption};
-ghost use Rattle.runs.specs.Trees.{at_edge as is_at_edge, parent as the_parent, first as the_first, second as the_second};
+ghost use Rattle.std.specs.Prelude.{◌≡◌, true, false, ◌*◌, ◌^◌, ◌<◌, ◌≤◌, MatchOption};
+ghost use Rattle.runs.specs.Trees.{at_edge as is_at_edge, beyond as the_next, parent as the_parent, first as the_first, second as the_second};
 ghost use Rattle.blocks.specs.Places.{as_block, Lies, NextTo, corner_entry};
 
 use crate::block::Block;
@@ -34,14 +34,12 @@ pub fn at_edge(head: Head, block: Block, dir: Dir) -> bool
     }
 }
 
-/// The block of the same level that lies next in a direction, if the basin goes on there.
-pub fn beyond(head: Head, block: Block, dir: Dir) -> Option<Block>
-    requires { Lies head.levels block }
-    ensures { MatchOption result (is_at_edge dir (as_block block) ≡ true) (NextTo head.levels dir block) }
+/// The block of the same level that lies next in a direction.
+pub fn beyond(head: Head, block: Block, dir: Dir) -> Block
+    requires { (Lies head.levels block) × (is_at_edge dir (as_block block) ≡ false) }
+    ensures value { as_block result ≡ the_next dir (as_block block) }
+    ensures lies { Lies head.levels result }
 {
-    if at_edge(head, block, dir) {
-        return None;
-    }
     let Block { level, x, y } = block;
     // A match: four short arms, one a direction, which a table of closures would only spread out.
     let (x, y) = match dir {
@@ -50,7 +48,19 @@ pub fn beyond(head: Head, block: Block, dir: Dir) -> Option<Block>
         Dir::West => (x - 1, y),
         Dir::South => (x, y - 1),
     };
-    Some(Block { level, x, y })
+    Block { level, x, y }
+}
+
+/// The block of the same level that lies next in a direction, if the basin goes on there.
+pub fn next(head: Head, block: Block, dir: Dir) -> Option<Block>
+    requires { Lies head.levels block }
+    ensures { MatchOption result (is_at_edge dir (as_block block) ≡ true) (NextTo head.levels dir block) }
+{
+    if at_edge(head, block, dir) {
+        None
+    } else {
+        Some(beyond(head, block, dir))
+    }
 }
 
 /// The block that this one is a quarter of.

@@ -1,5 +1,5 @@
 -- The basin and the surface number once a leaf has been given its water.
-use Rattle.std.proofs.Common.{◌≡◌, ℕ, ◌+◌, ◌-◌, ◌*◌, ◌/◌, ◌^◌, ◌≤◌, cond, not, List, length, sym, refl, ap, ◌∙◌}
+use Rattle.std.proofs.Common.{◌≡◌, ℕ, ◌+◌, ◌-◌, ◌*◌, ◌/◌, ◌^◌, ◌<◌, ◌≤◌, cond, not, List, length, slice_index_or, sym, refl, ap, ◌∙◌, mul-le-mul_right, add-mul, one-mul, arith}
 use Rattle.basin.specs.declared.leaf.Leaf.{Leaf}
 use Rattle.basin.specs.declared.plot.Plot.{Plot}
 use Rattle.basin.specs.Basins.{Basin, basin, tables, side, view}
@@ -19,7 +19,7 @@ use Rattle.runs.specs.Changes.{put}
 use Rattle.runs.proofs.WaterCalls.{block_in}
 use Rattle.looks.proofs.Beds.{ground_is}
 use Rattle.calls.specs.declared.spot.Spot.{Spot}
-use Rattle.calls.specs.Spots.{Located, Covers, refilled}
+use Rattle.calls.specs.Spots.{Located, Covers, entry_of, refilled}
 use Rattle.calls.proofs.Placing.{located_covers}
 
 -- the entries of a table of levels or beds are those that the squares say
@@ -53,6 +53,12 @@ beds_long b x y s l = l.valid.full.beds ∙ sym (λ i. l.block.n_is i * l.block.
 pub leaves_long : (b : Basin) (x y : ℕ) (s : Spot) → Located b x y s → length b.tables.leaves ≡ s.plot.n * s.plot.n
 leaves_long b x y s l = l.valid.full.leaves ∙ sym (λ i. l.block.n_is i * l.block.n_is i)
 
+pub square_in : (b : Basin) (x y : ℕ) (s : Spot) → Located b x y s → entry_of s.square < s.plot.n * s.plot.n
+square_in b x y s l =
+    let n = side b.head in
+    let row : y + 1 ≤ n = omega (arith, l.north) in
+    rw (l.square.x_is, l.square.y_is, l.square.n_is, l.block.n_is) (omega (arith, mul-le-mul_right n row, add-mul y 1 n, one-mul n, l.east))
+
 pub plot_some : (b : Basin) (x y : ℕ) (s : Spot) → Located b x y s → 1 ≤ s.plot.side
 plot_some b x y s l = rw l.block.side_is (side_pos (b.head.L - (view b).level x y))
 
@@ -68,8 +74,8 @@ module _ (b : Basin) (x y : ℕ) (s : Spot) (l : Located b x y s) (w : ℕ) wher
   leaves_are =
       let old = b.tables.leaves in
       let p = s.plot in
-      (λ i. square p.side p.n p.side (p.south * p.n + p.west)
-      (finish (l.block.side_is i * l.block.side_is i) w (l.leaf_is i).east (l.leaf_is i).north) old)
+      (λ i. let here = slice_index_or old (l.square.y_is i * l.square.n_is i + l.square.x_is i) dry in
+      square p.side p.n p.side (p.south * p.n + p.west) (finish (l.block.side_is i * l.block.side_is i) w here.east here.north) old)
       ∙ filled_table b k x y p (located_covers b x y s l) record_at dry old l.valid.full.leaves
 
   -- head and tables, with any loose account

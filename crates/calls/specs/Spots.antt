@@ -1,14 +1,16 @@
 -- The leaf at a square, and the refusals that every call at a square may meet.
-use Rattle.std.specs.Prelude.{◌≡◌, ℕ, ◌+◌, ◌*◌, ◌<◌, ◌≤◌, cond, List, Ok, Err, Result}
+use Rattle.std.specs.Prelude.{◌≡◌, ℕ, ◌+◌, ◌*◌, ◌<◌, ◌≤◌, cond, List, Ok, Err, Result, slice_index_or}
 use Rattle.basin.specs.declared.leaf.Leaf.{Leaf}
 use Rattle.basin.specs.declared.plot.Plot.{Plot}
 use Rattle.basin.specs.declared.refusal.Refusal.{Refusal}
 use Rattle.basin.specs.declared.refusal.Refusal.TheVariants.{OffGrid}
+use Rattle.basin.specs.declared.square.Square.{Square}
 use Rattle.basin.specs.Basins.{Basin, side, view, ValidBasin}
 use Rattle.basin.specs.Fills.{square}
 use Rattle.basin.specs.Finish.{finish}
 use Rattle.basin.specs.Flaws.{validity}
 use Rattle.basin.specs.Places.{IsAt}
+use Rattle.basin.specs.Records.{dry}
 use Rattle.looks.specs.Looks.{after}
 use Rattle.runs.specs.Calls.{off}
 use Rattle.tables.specs.Surveys.{BlockAt}
@@ -36,8 +38,13 @@ pub record Covers (b : Basin) (k x y : ℕ) (p : Plot) : Type 0 where
   pub north : y < side b.head
   pub block : BlockAt b k x y p
 
+-- a square's entry in the tables
+abbrev pub entry_of : Square → ℕ
+entry_of q = q.y * q.n + q.x
+
 -- the leaves once this one holds so much water
 abbrev pub refilled : Spot → ℕ → List Leaf → List Leaf
 refilled s water leaves =
     let p = s.plot in
-    square p.side p.n p.side (p.south * p.n + p.west) (finish (p.side * p.side) water s.leaf.east s.leaf.north) leaves
+    let leaf = slice_index_or leaves (entry_of s.square) dry in
+    square p.side p.n p.side (p.south * p.n + p.west) (finish (p.side * p.side) water leaf.east leaf.north) leaves

@@ -1,8 +1,8 @@
 // The leaf at a square, on which a call works.
-ghost use Rattle.std.specs.Prelude.{◌≡◌, ◌+◌, ◌*◌, ◌/◌, ◌≤◌, length, Err, MatchResult};
+ghost use Rattle.std.specs.Prelude.{◌≡◌, ◌+◌, ◌*◌, ◌/◌, ◌<◌, ◌≤◌, length, Err, MatchResult};
 ghost use Rattle.basin.specs.Basins.{basin_of};
 ghost use Rattle.basin.specs.Plots.{ground};
-ghost use Rattle.calls.specs.Spots.{Located, placing, refilled};
+ghost use Rattle.calls.specs.Spots.{Located, placing, entry_of, refilled};
 ghost use Rattle.tables.specs.Surveys.{surveyed};
 
 use basin::finish::finish;
@@ -60,16 +60,18 @@ pub fn locate(
     Spot::at(&survey, x, y)
 }
 
-// `1 ≤ spot.plot.side` is asked for: a `Plot` may be empty, and the surface number divides by its area.
+// `1 ≤ spot.plot.side` is asked for: a `Plot` may be empty, and the surface number divides by its area. The discharges are those that the table
+// has now, not those that the spot was found with.
 /// Gives the leaf at a spot this much water, clips its discharges to it, and answers its new surface number.
 pub fn refill(spot: Spot, beds: &[u16], leaves: &mut [Leaf], water: u32) -> u64
     requires beds { length beds.now ≡ spot.plot.n * spot.plot.n }
     requires leaves { length leaves.old ≡ spot.plot.n * spot.plot.n }
     requires some { 1 ≤ spot.plot.side }
+    requires inside { entry_of spot.square < spot.plot.n * spot.plot.n }
     ensures leaves { leaves.new ≡ refilled spot water leaves.old }
     ensures surface { result ≡ (water + ground spot.plot beds.now) / (spot.plot.side * spot.plot.side) }
 {
-    let Leaf { east, north, .. } = spot.leaf;
+    let Leaf { east, north, .. } = leaves[spot.square.entry()];
     let record = finish(spot.plot.area(), water, east, north);
     spot.plot.fill(leaves, record);
     surface_of(beds, spot.plot, water)

@@ -2,7 +2,7 @@
 use Rattle.std.proofs.Common.{sym, ◌∙◌}
 use Rattle.std.proofs.lemmas.Result.{err_from_is_err_and}
 use Rattle.basin.specs.Basins.{basin_of}
-use Rattle.calls.proofs.Refilled.{beds_long, leaves_long, plot_some}
+use Rattle.calls.proofs.Refilled.{beds_long, leaves_long, plot_some, square_in}
 use Rattle.calls.proofs.Watered.{draw_refused, draw_out, draw_over, draw_granted}
 use Rattle.calls.proofs.water.draw.Goals as goal
 
@@ -24,7 +24,7 @@ returns-then-amount-water c =
 pub refill-requires : goal.refill-requires
 refill-requires c =
     let b = basin_of c.args.head c.args.levels.now c.args.beds.now c.args.leaves.now in
-    record { beds = beds_long b _ _ _ c.in_ok-spot.ensures; leaves = leaves_long b _ _ _ c.in_ok-spot.ensures; some = plot_some b _ _ _ c.in_ok-spot.ensures }
+    record { beds = beds_long b _ _ _ c.in_ok-spot.ensures; leaves = leaves_long b _ _ _ c.in_ok-spot.ensures; some = plot_some b _ _ _ c.in_ok-spot.ensures; inside = square_in b _ _ _ c.in_ok-spot.ensures }
 
 pub returns : goal.returns
 returns c =

@@ -3,7 +3,7 @@ use Rattle.std.proofs.Common.{◌+◌, ap, ◌∙◌}
 use Rattle.std.proofs.lemmas.Result.{err_from_is_err_and}
 use Rattle.basin.specs.Basins.{basin_of}
 use Rattle.basin.specs.Records.{may_hold}
-use Rattle.calls.proofs.Refilled.{beds_long, leaves_long, plot_some}
+use Rattle.calls.proofs.Refilled.{beds_long, leaves_long, plot_some, square_in}
 use Rattle.calls.proofs.Watered.{settle_refused, settle_full, settle_granted}
 use Rattle.calls.proofs.water.settle.Goals as goal
 
@@ -20,7 +20,7 @@ returns-then-not-may_hold c =
 pub refill-requires : goal.refill-requires
 refill-requires c =
     let b = basin_of c.args.head.now c.args.levels.now c.args.beds.now c.args.leaves.now in
-    record { beds = beds_long b _ _ _ c.in_ok-spot.ensures; leaves = leaves_long b _ _ _ c.in_ok-spot.ensures; some = plot_some b _ _ _ c.in_ok-spot.ensures }
+    record { beds = beds_long b _ _ _ c.in_ok-spot.ensures; leaves = leaves_long b _ _ _ c.in_ok-spot.ensures; some = plot_some b _ _ _ c.in_ok-spot.ensures; inside = square_in b _ _ _ c.in_ok-spot.ensures }
 
 pub returns : goal.returns
 returns c =
