@@ -1,7 +1,7 @@
 // Whether dry ground would lie below the water beside it.
-ghost use Rattle.std.specs.Prelude.{◌≡◌, ◌≤◌, Decides, MatchOption};
+ghost use Rattle.std.specs.Prelude.{◌≡◌, ◌≤◌, Decides, MatchOption, nat_lt};
 ghost use Rattle.basin.specs.Basins.{heading, side, view};
-ghost use Rattle.basin.specs.Squares.{bed_number as bed_number_of};
+ghost use Rattle.basin.specs.Squares.{bed_number as bed_number_of, surface};
 ghost use Rattle.tables.specs.Surveys.{surveyed, On};
 ghost use Rattle.refine.specs.Floods.{flows_onto as flows_onto_of, KeepsOff, DrySquare, DryWindow};
 
@@ -21,6 +21,18 @@ fn bed_number(survey: &Survey<'_>, level: u8, square: Square) -> u64
     plot_beds(survey.beds, plot) / plot.area() as u64
 }
 
+/// Whether the surface at the square `from` is above the bed number of a leaf of `level` at another. Apart, and not inlined, so that the test of
+/// each square's neighbours, most of which are dry, is short.
+#[inline(never)]
+fn stands_above(survey: &Survey<'_>, level: u8, square: Square, from: Square) -> bool
+    requires on { On (surveyed survey.now) square }
+    requires from { On (surveyed survey.now) from }
+    requires deep { level ≤ survey.now.head.levels }
+    ensures { result ≡ nat_lt (bed_number_of (view (surveyed survey.now)) level square.x square.y) (surface (view (surveyed survey.now)) from.x from.y) }
+{
+    bed_number(survey, level, square) < surface_at(survey, from)
+}
+
 /// Whether the square `from` is wet and its surface above the bed number of a leaf of `level` at another.
 fn flows_onto(survey: &Survey<'_>, level: u8, square: Square, from: Square) -> bool
     requires on { On (surveyed survey.now) square }
@@ -28,7 +40,7 @@ fn flows_onto(survey: &Survey<'_>, level: u8, square: Square, from: Square) -> b
     requires deep { level ≤ survey.now.head.levels }
     ensures { result ≡ flows_onto_of (view (surveyed survey.now)) level square.x square.y from.x from.y }
 {
-    survey.leaf(from).water > 0 && bed_number(survey, level, square) < surface_at(survey, from)
+    survey.leaf(from).water > 0 && stands_above(survey, level, square, from)
 }
 
 /// Whether the square `from`, if there is one, would not flow onto a leaf of `level` at another.
