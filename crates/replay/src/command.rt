@@ -1,6 +1,6 @@
 // The calls of a log.
 use crate::stop::Stop;
-use hex::decode;
+use hex::{FromHexError, decode};
 use kaftanore::{Call, Rules};
 use std::alloc::Global;
 use std::num::ParseIntError;
@@ -39,6 +39,17 @@ fn number<N: FromStr<Err = ParseIntError>>(word: &str) -> Result<N, Stop> {
 /// A number in 32 bits; a larger one becomes the largest, which is out of every range too.
 fn narrow(word: &str) -> Result<u32, Stop> {
     Ok(u32::try_from(number::<u64>(word)?).unwrap_or(u32::MAX))
+}
+
+/// The bytes that a word of hexadecimal digits stands for. `decode` makes room for them before it looks at a digit, so what it has no room for may
+/// be no such word.
+fn bytes(heap: Global, word: &str) -> Result<Vec<u8>, Stop> {
+    match decode(heap, word) {
+        Err(FromHexError::OutOfMemory) if !word.bytes().all(|c| c.is_ascii_hexdigit()) => {
+            Err(Stop::NotHex)
+        }
+        decoded => Ok(decoded?),
+    }
 }
 
 /// The call of a list that some words stand for. A step takes the whole work table.
@@ -89,7 +100,7 @@ fn alone(heap: Global, words: &[&str]) -> Result<Option<Command>, Stop> {
         },
         ["close"] => Command::Close,
         ["read"] => Command::Read(Vec::new(heap)),
-        ["read", hex] => Command::Read(decode(heap, *hex)?),
+        ["read", hex] => Command::Read(bytes(heap, hex)?),
         ["load", path] => Command::Load(String::from_str(heap, path)?),
         ["write"] => Command::Write,
         ["save", path] => Command::Save(String::from_str(heap, path)?),
