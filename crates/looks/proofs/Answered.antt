@@ -1,5 +1,5 @@
 -- What the calls answer, case by case.
-use Rattle.std.proofs.Common.{◌≡◌, ℕ, ◌<◌, Ok, Err, sym, refl, ◌∙◌, arith}
+use Rattle.std.proofs.Common.{◌≡◌, ℕ, ℤ, ◌<◌, Ok, Err, sym, refl, ap, ◌∙◌, arith}
 use Rattle.std.proofs.lemmas.Bool.Decides.{nat_tests}
 use Rattle.basin.specs.declared.leaf.Leaf.{Leaf}
 use Rattle.basin.specs.declared.refusal.Refusal.{Refusal}
@@ -29,12 +29,15 @@ pub look_off : (b : Basin) (x y : ℕ) → Ok tt ≡ validity b → (x < side b.
 unfolding look_of
 look_off b x y h off = rw (sym h) (grind (arith, nat_tests))
 
--- a square of a valid basin, by what its survey says
-pub seen_is : (s : Survey) (b : Basin) (q : Square) (x y k w : ℕ) (l : Leaf) → surveyed s ≡ b → IsAt x y (side b.head) q
+-- a square of a valid basin, by what its survey says; the answer's discharges are those of its record
+pub seen_is : (s : Survey) (b : Basin) (q : Square) (x y k w : ℕ) (l : Leaf) (f g : ℤ) → surveyed s ≡ b → IsAt x y (side b.head) q
     → k ≡ (view (surveyed s)).level q.x q.y → l ≡ (view (surveyed s)).leaf q.x q.y → w ≡ surface (view (surveyed s)) q.x q.y
-    → record { level = k; water = l.water; surface = w; east = l.east; north = l.north } ≡ seen (view b) x y
-seen_is s b q x y k w l e at ek el ew =
-    (λ i. record { level = ek i; water = (el i).water; surface = ew i; east = (el i).east; north = (el i).north })
+    → f ≡ l.east → g ≡ l.north
+    → record { level = k; water = l.water; surface = w; east = f; north = g } ≡ seen (view b) x y
+seen_is s b q x y k w l f g e at ek el ew ef eg =
+    let east : f ≡ ((view (surveyed s)).leaf q.x q.y).east = ef ∙ ap (λ l. l.east) el in
+    let north : g ≡ ((view (surveyed s)).leaf q.x q.y).north = eg ∙ ap (λ l. l.north) el in
+    (λ i. record { level = ek i; water = (el i).water; surface = ew i; east = east i; north = north i })
     ∙ (λ i. seen (view (e i)) (at.x_is i) (at.y_is i))
 
 pub look_granted : (b : Basin) (x y : ℕ) (l : Look) → Ok tt ≡ validity b → x < side b.head → y < side b.head → l ≡ seen (view b) x y

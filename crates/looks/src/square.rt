@@ -12,6 +12,7 @@ use tables::survey::Survey;
 
 // Tables come one by one, since it is here that they become a survey.
 /// What there is at a square: its leaf's level, water, surface number and discharges.
+#[tactic(auto, using(crate::proofs::Answered::look_off))]
 pub fn look(
     head: Head,
     levels: &[u8],

@@ -59,6 +59,11 @@ pub painted_one : {A : Type 0} (pick : ℕ → Leaf → A) (n height w : ℕ) (l
 unfolding painted
 painted_one pick n height w l p t e = rw e refl
 
+-- a leaf is drawn where its block has its value
+pub leaf_drawn : {A : Type 0} (pick : ℕ → Leaf → A) (n height p : ℕ) {a : ℕ} {l : Leaf} (t u : List A) {r : Result (Tree × ℕ) TreeFault}
+    → r ≡ Ok (one l, a) → u ≡ square (2 ^ height) n (2 ^ height) p (pick height l) t → Drawn pick n height p r t u
+leaf_drawn pick n height p t u e h = drawn_ok pick n height p t u e (h ∙ painted_one pick n height (2 ^ height) _ p t refl)
+
 painted_four : {A : Type 0} (pick : ℕ → Leaf → A) (n height p : ℕ) (x y z : Tree) (r : Result (Tree × ℕ) TreeFault) (t₀ t₁ t₂ t₃ t₄ : List A)
     → t₁ ≡ painted pick n height x p t₀
     → t₂ ≡ painted pick n height y (p + side height) t₁

@@ -1,7 +1,7 @@
 use Rattle.std.proofs.Common.{◌≡◌, ℕ, ◌-◌, sym, refl, ◌∙◌, inl, inr, arith, rules}
 use Rattle.nodes.specs.Trees.{node_at, quarters_at}
 use Rattle.nodes.specs.Paint.{level_of, record_of}
-use Rattle.nodes.proofs.Ways.{node_cut, node_wrong, drawn_err, drawn_ok, painted_one}
+use Rattle.nodes.proofs.Ways.{node_cut, node_wrong, drawn_err, drawn_ok, painted_one, leaf_drawn}
 use Rattle.nodes.proofs.Quarters.{quarter_lies, quarters_fit, quarter_left, leaf_is, cut_is, four_left, fault_sw, fault_se, fault_nw}
 use Rattle.nodes.proofs.node.+read_node.Goals as goal
 use Rattle.nodes.proofs.node.+read_node.Goals.{In-Some, at-returns-in_err-read_node-in-Ok-Cut, at-returns-in_err-read_node-in-Ok-Cut-2, at-returns-in_err-read_node-in-Ok-Cut-3, at-returns-in_ok-read_node-in-Ok-Cut-3}
@@ -34,7 +34,7 @@ returns-in_ok-leaf-in-Ok-Leaf t c =
     record {
       next = (c.in_ok-leaf-in-Ok-Leaf.ensures.0 ∙ c.in_ok-number.ensures.0, rw e refl);
       levels = drawn_ok _ _ _ _ _ _ e (c.fill.ensures ∙ painted_one (level_of s.levels) _ s.height _ _ _ _ refl);
-      leaves = drawn_ok _ _ _ _ _ _ e (c.fill-in-Ok-Leaf.ensures ∙ painted_one record_of _ s.height _ _ _ _ refl);
+      leaves = leaf_drawn record_of _ s.height _ _ _ e (search rules);
     }
 
 pub returns-in_default : goal.returns-in_default
