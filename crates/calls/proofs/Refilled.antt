@@ -19,7 +19,7 @@ use Rattle.runs.specs.Changes.{put}
 use Rattle.runs.proofs.WaterCalls.{block_in}
 use Rattle.looks.proofs.Beds.{ground_is}
 use Rattle.calls.specs.declared.spot.Spot.{Spot}
-use Rattle.calls.specs.Spots.{Located, Covers, entry_of, refilled}
+use Rattle.calls.specs.Spots.{Located, Covers, entry_of, refilled, refilled_by_table}
 use Rattle.calls.proofs.Placing.{located_covers}
 
 -- the entries of a table of levels or beds are those that the squares say
@@ -74,9 +74,18 @@ module _ (b : Basin) (x y : ℕ) (s : Spot) (l : Located b x y s) (w : ℕ) wher
   leaves_are =
       let old = b.tables.leaves in
       let p = s.plot in
-      (λ i. let here = slice_index_or old (l.square.y_is i * l.square.n_is i + l.square.x_is i) dry in
-      square p.side p.n p.side (p.south * p.n + p.west) (finish (l.block.side_is i * l.block.side_is i) w here.east here.north) old)
+      (λ i. square p.side p.n p.side (p.south * p.n + p.west)
+      (finish (l.block.side_is i * l.block.side_is i) w (l.leaf_is i).east (l.leaf_is i).north) old)
       ∙ filled_table b k x y p (located_covers b x y s l) record_at dry old l.valid.full.leaves
+
+  -- in the tables in which the spot was found, its leaf is the table's record
+  pub by_table_as_found : refilled_by_table s w b.tables.leaves ≡ refilled s w b.tables.leaves
+  by_table_as_found =
+      let old = b.tables.leaves in
+      let p = s.plot in
+      let found : slice_index_or old (entry_of s.square) dry ≡ s.leaf =
+      (λ i. slice_index_or old (l.square.y_is i * l.square.n_is i + l.square.x_is i) dry) ∙ sym l.leaf_is in
+      (λ i. square p.side p.n p.side (p.south * p.n + p.west) (finish (p.side * p.side) w (found i).east (found i).north) old)
 
   -- head and tables, with any loose account
   pub refilled_basin : (loose : ℕ)
@@ -84,6 +93,13 @@ module _ (b : Basin) (x y : ℕ) (s : Spot) (l : Located b x y s) (w : ℕ) wher
       ≡ pack loose (put (view b) x y record_at)
   refilled_basin loose = λ i. basin (record { L = b.head.L; d = b.head.d; loose = loose })
       (tables (levels_are b l.valid.full.levels i) (beds_are b l.valid.full.beds i) (leaves_are i))
+
+  pub refilled_by_table_basin : (loose : ℕ)
+      → basin (record { L = b.head.L; d = b.head.d; loose = loose }) (tables b.tables.levels b.tables.beds (refilled_by_table s w b.tables.leaves))
+      ≡ pack loose (put (view b) x y record_at)
+  refilled_by_table_basin loose =
+      ap (λ leaves. basin (record { L = b.head.L; d = b.head.d; loose = loose }) (tables b.tables.levels b.tables.beds leaves)) by_table_as_found
+      ∙ refilled_basin loose
 
   pub refilled_surface : (w + ground s.plot b.tables.beds) / (s.plot.side * s.plot.side) ≡ surface (put (view b) x y record_at) x y
   refilled_surface =
@@ -118,3 +134,13 @@ module _ (b : Basin) (x y : ℕ) (s : Spot) (l : Located b x y s) where
     surface_made r e =
         e ∙ refilled_surface b x y s l w
         ∙ ap (λ w. surface (put (view b) x y (finish (area (view b) ((view b).level x y)) w ((view b).leaf x y).east ((view b).leaf x y).north)) x y) same
+
+  -- the same, by the discharges that the table has
+  module _ (w w' : ℕ) (same : w ≡ w') (leaves : List Leaf) (filled : leaves ≡ refilled_by_table s w b.tables.leaves) (loose : ℕ) where
+    pub basin_made_by_table : basin (record { L = b.head.L; d = b.head.d; loose = loose }) (tables b.tables.levels b.tables.beds leaves)
+        ≡ pack loose (put (view b) x y (finish (area (view b) ((view b).level x y)) w' ((view b).leaf x y).east ((view b).leaf x y).north))
+    basin_made_by_table = basin_made w w' same leaves (filled ∙ by_table_as_found b x y s l w) loose
+
+    pub surface_made_by_table : (r : ℕ) → r ≡ (w + ground s.plot b.tables.beds) / (s.plot.side * s.plot.side)
+        → r ≡ surface (put (view b) x y (finish (area (view b) ((view b).level x y)) w' ((view b).leaf x y).east ((view b).leaf x y).north)) x y
+    surface_made_by_table = surface_made w w' same leaves (filled ∙ by_table_as_found b x y s l w) loose

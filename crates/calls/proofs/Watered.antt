@@ -10,8 +10,8 @@ use Rattle.basin.specs.Records.{may_hold}
 use Rattle.basin.specs.Squares.{water}
 use Rattle.runs.specs.Calls.{pour, draw, settle, granted, refused, outside, full, perform}
 use Rattle.calls.specs.declared.spot.Spot.{Spot}
-use Rattle.calls.specs.Spots.{placing, Located, refilled}
-use Rattle.calls.proofs.Refilled.{water_is, full_is, basin_made, surface_made}
+use Rattle.calls.specs.Spots.{placing, Located, refilled, refilled_by_table}
+use Rattle.calls.proofs.Refilled.{water_is, full_is, by_table_as_found, basin_made, surface_made}
 use Rattle.calls.proofs.Verdicts.{refuses, strikes, grants}
 
 -- ---- the refusals that every call may meet
@@ -60,6 +60,11 @@ module _ (b : Basin) (x y : ℕ) (s : Spot) (l : Located b x y s) where
         (λ i. (granted (surface_made b x y s l _ _ same leaves filled b.head.loose r w i), basin_made b x y s l _ _ same leaves filled b.head.loose i))
         ∙ grants b x y (pour x y a) (λ l v. refl) (λ n. refl) l.passed (λ i. cond (ok i) (Err OutOfRange) (cond (yes i) (Err LeafFull) (Ok tt)))
 
+    pub pour_granted_by_table : room ≡ true → (leaves : List Leaf) (r : ℕ) → leaves ≡ refilled_by_table s (held + a) b.tables.leaves
+        → r ≡ (held + a + ground s.plot b.tables.beds) / (s.plot.side * s.plot.side)
+        → (granted r, basin b.head (tables b.tables.levels b.tables.beds leaves)) ≡ perform (pour x y a) b
+    pour_granted_by_table e leaves r filled = pour_granted e leaves r (filled ∙ by_table_as_found b x y s l (held + a))
+
   -- ---- draw
   module _ (a : ℕ) (ok : outside 1 122880000 a ≡ false) where
     pub draw_over : held < a → (refused Overdrawn, b) ≡ perform (draw x y a) b
@@ -76,6 +81,11 @@ module _ (b : Basin) (x y : ℕ) (s : Spot) (l : Located b x y s) where
         (λ i. (granted (surface_made b x y s l _ _ same leaves filled b.head.loose r w i), basin_made b x y s l _ _ same leaves filled b.head.loose i))
         ∙ grants b x y (draw x y a) (λ l v. refl) (λ n. refl) l.passed (λ i. cond (ok i) (Err OutOfRange) (cond (enough i) (Err Overdrawn) (Ok tt)))
 
+    pub draw_granted_by_table : a ≤ held → (leaves : List Leaf) (r : ℕ) → leaves ≡ refilled_by_table s (held - a) b.tables.leaves
+        → r ≡ (held - a + ground s.plot b.tables.beds) / (s.plot.side * s.plot.side)
+        → (granted r, basin b.head (tables b.tables.levels b.tables.beds leaves)) ≡ perform (draw x y a) b
+    draw_granted_by_table h leaves r filled = draw_granted h leaves r (filled ∙ by_table_as_found b x y s l (held - a))
+
   -- ---- settle
   module _ (room : Bool) (told : room ≡ may_hold (s.plot.side * s.plot.side) (held + b.head.loose)) where
     pub settle_full : room ≡ false → (refused LeafFull, b) ≡ perform (settle x y) b
@@ -91,3 +101,8 @@ module _ (b : Basin) (x y : ℕ) (s : Spot) (l : Located b x y s) where
         let same = ap (λ m. m + b.head.loose) (water_is b x y s l) in
         (λ i. (granted b.head.loose, basin_made b x y s l _ _ same leaves filled 0 i))
         ∙ grants b x y (settle x y) (λ l v. refl) (λ n. refl) l.passed (λ i. cond (yes i) (Err LeafFull) (Ok tt))
+
+    pub settle_granted_by_table : room ≡ true → (leaves : List Leaf) → leaves ≡ refilled_by_table s (held + b.head.loose) b.tables.leaves
+        → (granted b.head.loose, basin (record { L = b.head.L; d = b.head.d; loose = 0 }) (tables b.tables.levels b.tables.beds leaves))
+        ≡ perform (settle x y) b
+    settle_granted_by_table e leaves filled = settle_granted e leaves (filled ∙ by_table_as_found b x y s l (held + b.head.loose))

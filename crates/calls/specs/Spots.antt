@@ -42,9 +42,15 @@ pub record Covers (b : Basin) (k x y : ℕ) (p : Plot) : Type 0 where
 abbrev pub entry_of : Square → ℕ
 entry_of q = q.y * q.n + q.x
 
--- the leaves once this one holds so much water
+-- the leaves once this one holds so much water, with the discharges that its spot was found with
 abbrev pub refilled : Spot → ℕ → List Leaf → List Leaf
 refilled s water leaves =
+    let p = s.plot in
+    square p.side p.n p.side (p.south * p.n + p.west) (finish (p.side * p.side) water s.leaf.east s.leaf.north) leaves
+
+-- the leaves once this one holds so much water, with the discharges that the table has
+abbrev pub refilled_by_table : Spot → ℕ → List Leaf → List Leaf
+refilled_by_table s water leaves =
     let p = s.plot in
     let leaf = slice_index_or leaves (entry_of s.square) dry in
     square p.side p.n p.side (p.south * p.n + p.west) (finish (p.side * p.side) water leaf.east leaf.north) leaves

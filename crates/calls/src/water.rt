@@ -4,7 +4,7 @@ ghost use Rattle.basin.specs.Basins.{basin_of};
 ghost use Rattle.calls.specs.Replies.{replied};
 ghost use Rattle.runs.specs.Calls.{outside, perform, pour as a_pour, draw as a_draw, settle as a_settle};
 
-use crate::spot::{locate, refill};
+use crate::spot::{locate, refill_by_table};
 use basin::head::Head;
 use basin::leaf::{Leaf, may_hold};
 use basin::refusal::Refusal;
@@ -37,7 +37,7 @@ pub fn pour(
     if !may_hold(spot.plot.area(), water) {
         return Err(Refusal::LeafFull);
     }
-    Ok(refill(spot, beds, leaves, water as u32))
+    Ok(refill_by_table(spot, beds, leaves, water as u32))
 }
 
 // Tables come one by one: the types say which of them the call may write, and the caller keeps them in memory of his own.
@@ -61,7 +61,7 @@ pub fn draw(
     if amount > water {
         return Err(Refusal::Overdrawn);
     }
-    Ok(refill(spot, beds, leaves, water - amount))
+    Ok(refill_by_table(spot, beds, leaves, water - amount))
 }
 
 // Tables come one by one: the types say which of them the call may write, and the caller keeps them in memory of his own.
@@ -82,7 +82,7 @@ pub fn settle(
     if !may_hold(spot.plot.area(), water) {
         return Err(Refusal::LeafFull);
     }
-    let _ = refill(spot, beds, leaves, water as u32);
+    let _ = refill_by_table(spot, beds, leaves, water as u32);
     head.loose = 0;
     Ok(loose)
 }

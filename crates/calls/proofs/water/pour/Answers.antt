@@ -4,7 +4,7 @@ use Rattle.std.proofs.lemmas.Result.{err_from_is_err_and}
 use Rattle.basin.specs.Basins.{basin_of}
 use Rattle.basin.specs.Records.{may_hold}
 use Rattle.calls.proofs.Refilled.{beds_long, leaves_long, plot_some, square_in}
-use Rattle.calls.proofs.Watered.{pour_refused, pour_out, pour_full, pour_granted}
+use Rattle.calls.proofs.Watered.{pour_refused, pour_out, pour_full, pour_granted_by_table}
 use Rattle.calls.proofs.water.pour.Goals as goal
 
 pub returns-in_err-spot : goal.returns-in_err-spot
@@ -22,12 +22,12 @@ returns-then-not-may_hold c =
     pour_full (basin_of c.args.head c.args.levels.now c.args.beds.now c.args.leaves.now) _ _ _
     c.in_ok-spot.ensures _ (sym c.out_of_range.ensures ∙ c.if-out_of_range.false) _ (c.may_hold.ensures ∙ ap (λ a. may_hold a (c.in_ok-spot.spot.leaf.water + c.args.amount)) c.area.ensures.value) c.if-not-may_hold.true
 
-pub refill-requires : goal.refill-requires
-refill-requires c =
+pub refill_by_table-requires : goal.refill_by_table-requires
+refill_by_table-requires c =
     let b = basin_of c.args.head c.args.levels.now c.args.beds.now c.args.leaves.now in
     record { beds = beds_long b _ _ _ c.in_ok-spot.ensures; leaves = leaves_long b _ _ _ c.in_ok-spot.ensures; some = plot_some b _ _ _ c.in_ok-spot.ensures; inside = square_in b _ _ _ c.in_ok-spot.ensures }
 
 pub returns : goal.returns
 returns c =
-    pour_granted (basin_of c.args.head c.args.levels.now c.args.beds.now c.args.leaves.now) _ _ _
-    c.in_ok-spot.ensures _ (sym c.out_of_range.ensures ∙ c.if-out_of_range.false) _ (c.may_hold.ensures ∙ ap (λ a. may_hold a (c.in_ok-spot.spot.leaf.water + c.args.amount)) c.area.ensures.value) c.if-not-may_hold.false _ _ c.refill.ensures.leaves c.refill.ensures.surface
+    pour_granted_by_table (basin_of c.args.head c.args.levels.now c.args.beds.now c.args.leaves.now) _ _ _
+    c.in_ok-spot.ensures _ (sym c.out_of_range.ensures ∙ c.if-out_of_range.false) _ (c.may_hold.ensures ∙ ap (λ a. may_hold a (c.in_ok-spot.spot.leaf.water + c.args.amount)) c.area.ensures.value) c.if-not-may_hold.false _ _ c.refill_by_table.ensures.leaves c.refill_by_table.ensures.surface
